@@ -1,0 +1,21 @@
+-- Document 01, "Refusal numbers": checks run in the order given per record; the first that applies is the answer.
+use mathlib.Core.Bool.{Bool, true, false, cond}
+use mathlib.Core.List.{List, [], _∷_}
+use Rattle.refusal.specs.declared.Refusal.{Refusal}
+use Rattle.refusal.specs.declared.Outcome.{Outcome}
+use Rattle.refusal.specs.declared.Outcome.the-variants.{Accepted, Refused}
+
+infixl 20 _⇒_
+-- a check: where its test is true, it gives its refusal
+pub data Check : Type 0 where
+  _⇒_ : Bool → Refusal → Check
+
+-- the first check that applies is the answer; where none does, accepted
+unfoldable pub firstOf : List Check → Outcome
+firstOf [] = Accepted
+firstOf ((applies ⇒ r) ∷ checks) = cond applies (Refused r) (firstOf checks)
+
+-- one more check after those that came to an outcome
+unfoldable pub refuseIf : Outcome → Bool → Refusal → Outcome
+refuseIf (Refused first) applies r = Refused first
+refuseIf Accepted applies r = cond applies (Refused r) Accepted
