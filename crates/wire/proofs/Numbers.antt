@@ -1,0 +1,93 @@
+-- Laws of numbers in bytes, shown once over the width: stored and read back, read and stored, and how far a number goes.
+use Prim.Native.Nat.{ℕ, zero, suc, _+_, _*_, _/_, _%_, _^_, _<_}
+use native.Mathlib.Nat.{pow-suc, pow-succ', mul-assoc}
+use native.Mathlib.Omega.{arith}
+use mathlib.Core.Path.{_≡_, refl, sym, ap, _∙_}
+use mathlib.Core.List.{List, [], _∷_, _++_, reverse, reverseAux, reverse-reverse}
+use lib.ListN.{length, getD, take, length-reverse}
+use Rattle.wire.specs.Numbers.{leOf, leBytes, beOf, beBytes}
+use Rattle.wire.specs.Parts.{partOf, leAt, beAt, joined}
+use Rattle.wire.proofs.Parts.{piece-part}
+
+-- each element is a byte
+abbrev pub Bytes : List ℕ → Type 0
+Bytes [] = Unit {0}
+Bytes (b ∷ bs) = (b < 256) × Bytes bs
+
+pub length-leBytes : (w x : ℕ) → length (leBytes w x) ≡ w
+unfolding leBytes
+length-leBytes zero x = refl
+length-leBytes (suc w) x = ap suc (length-leBytes w (x / 256))
+
+-- A number stored and read back is the number.
+pub le-back : (w x : ℕ) → x < 256 ^ w → leOf (leBytes w x) ≡ x
+unfolding leOf leBytes
+le-back zero x h = omega arith
+le-back (suc w) x h = rw (le-back w (x / 256) (omega (arith, pow-suc 256 w))) (omega arith)
+
+-- A number read from bytes and stored gives the bytes.
+pub bytes-back : (bs : List ℕ) → Bytes bs → leBytes (length bs) (leOf bs) ≡ bs
+unfolding leOf leBytes
+bytes-back [] p = refl
+bytes-back (b ∷ bs) p =
+    let low : (b + 256 * leOf bs) % 256 ≡ b = omega (arith, p .0) in
+    let high : (b + 256 * leOf bs) / 256 ≡ leOf bs = omega (arith, p .0) in
+    rw (low, high, bytes-back bs (p .1))
+
+-- A number of w bytes is below 256 ^ w.
+pub le-below : (bs : List ℕ) → Bytes bs → leOf bs < 256 ^ length bs
+unfolding leOf
+le-below [] p = omega arith
+le-below (b ∷ bs) p = omega (arith, p .0, le-below bs (p .1), pow-suc 256 (length bs))
+
+-- A number in two runs of bytes: the first, and the second times what the first can hold.
+pub le-append : (bs cs : List ℕ) → leOf (bs ++ cs) ≡ leOf bs + 256 ^ length bs * leOf cs
+unfolding leOf
+le-append [] cs = omega arith
+le-append (b ∷ bs) cs = rw (le-append bs cs, pow-succ' 256 (length bs), mul-assoc) (omega arith)
+
+-- Most significant first: the same laws, of the bytes turned round.
+pub length-beBytes : (w x : ℕ) → length (beBytes w x) ≡ w
+unfolding beBytes
+length-beBytes w x = length-reverse (leBytes w x) ∙ length-leBytes w x
+
+bytes-turned : (bs cs : List ℕ) → Bytes bs → Bytes cs → Bytes (reverseAux bs cs)
+bytes-turned [] cs p q = q
+bytes-turned (b ∷ bs) cs p q = bytes-turned bs (b ∷ cs) (p .1) (p .0, q)
+
+pub be-back : (w x : ℕ) → x < 256 ^ w → beOf (beBytes w x) ≡ x
+unfolding beOf beBytes
+be-back w x h = rw (reverse-reverse (leBytes w x)) (le-back w x h)
+
+pub be-bytes-back : (bs : List ℕ) → Bytes bs → beBytes (length bs) (beOf bs) ≡ bs
+unfolding beOf beBytes
+be-bytes-back bs p =
+    ap (λ n. reverse (leBytes n (leOf (reverse bs)))) (sym (length-reverse bs)) ∙ ap reverse (bytes-back (reverse bs) (bytes-turned bs [] p tt)) ∙ reverse-reverse bs
+
+pub be-below : (bs : List ℕ) → Bytes bs → beOf bs < 256 ^ length bs
+unfolding beOf
+be-below bs p = rw (length-reverse bs) at (le-below (reverse bs) (bytes-turned bs [] p tt))
+
+-- a list by its places
+abbrev pub places : ℕ → (ℕ → ℕ) → List ℕ
+places zero f = []
+places (suc w) f = f 0 ∷ places w (λ k. f (suc k))
+
+pub spelt : (bs : List ℕ) → places (length bs) (λ k. getD bs k 0) ≡ bs
+spelt [] = refl
+spelt (b ∷ bs) = ap (λ t. b ∷ t) (spelt bs)
+
+-- a number at a place, from the bytes of the part there by their places
+pub le-read : (w : ℕ) (s b : List ℕ) (at : ℕ) → b ≡ partOf s at w → length b ≡ w → leOf (places w (λ k. getD b k 0)) ≡ leAt w s at
+unfolding leAt
+le-read w s b at e l = ap leOf (rw l at (spelt b) ∙ e)
+
+pub be-read : (w : ℕ) (s b : List ℕ) (at : ℕ) → b ≡ partOf s at w → length b ≡ w → beOf (places w (λ k. getD b k 0)) ≡ beAt w s at
+unfolding beAt
+be-read w s b at e l = ap beOf (rw l at (spelt b) ∙ e)
+
+-- A number that is the k-th piece of a record is read at its place.
+pub le-piece : (w : ℕ) (pieces : List (List ℕ)) (k x at : ℕ) → getD pieces k [] ≡ leBytes w x → x < 256 ^ w → length (joined (take k pieces)) ≡ at
+    → leAt w (joined pieces) at ≡ x
+unfolding leAt
+le-piece w pieces k x at e h p = ap leOf (piece-part pieces k at w p (ap length e ∙ length-leBytes w x) ∙ e) ∙ le-back w x h

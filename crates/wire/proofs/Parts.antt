@@ -1,0 +1,93 @@
+-- Laws of parts: those that lie inside, those that do not, parts of what was put together, and parts that follow each other.
+use Prim.Native.Nat.{ℕ, zero, suc, _+_, _-_, _≤_, _<_}
+use native.Mathlib.Nat.{add-sub-cancel-left}
+use native.Mathlib.Omega.{arith}
+use mathlib.Core.Path.{_≡_, refl, sym, ap, _∙_}
+use mathlib.Core.List.{List, [], _∷_, _++_, append-assoc}
+use lib.ListN.{length, getD, take, drop, length-append, length-take, length-drop}
+use lib.Seq.{length-take-le, take-at, drop-at, take-add, drop-drop, take-length, take-append-le, drop-append-le, drop-append-seam}
+use mathlib.Core.Bool.{Bool, true, false}
+use lib.Dec.{leb}
+use borrow.Author.Tests.{le-leb, lt-leb, leb-true, leb-false}
+use Rattle.wire.specs.Parts.{partOf, startOf, joined}
+
+-- two tests of orders that hold together and fail together
+pub leb-same : (a b c d : ℕ) → (a ≤ b → c ≤ d) → (b < a → d < c) → leb a b ≡ leb c d
+leb-same a b c d holds fails = go (leb a b) refl
+  where
+    go : (t : Bool) → leb a b ≡ t → leb a b ≡ leb c d
+    go true q = q ∙ sym (le-leb c d (holds (leb-true a b q)))
+    go false q = q ∙ sym (lt-leb c d (fails (leb-false a b q)))
+
+pub part-in : (s : List ℕ) (at len : ℕ) → at + len ≤ length s → partOf s at len ≡ take len (drop at s)
+unfolding partOf
+part-in s at len h = rw (le-leb (at + len) (length s) h)
+
+pub part-out : (s : List ℕ) (at len : ℕ) → length s < at + len → partOf s at len ≡ []
+unfolding partOf
+part-out s at len h = rw (lt-leb (at + len) (length s) h)
+
+pub start-in : (s : List ℕ) (at len : ℕ) → at + len ≤ length s → startOf s at len ≡ at
+unfolding startOf
+start-in s at len h = rw (le-leb (at + len) (length s) h)
+
+pub start-out : (s : List ℕ) (at len : ℕ) → length s < at + len → startOf s at len ≡ 0
+unfolding startOf
+start-out s at len h = rw (lt-leb (at + len) (length s) h)
+
+-- A part that lies inside has its length.
+pub length-part : (s : List ℕ) (at len : ℕ) → at + len ≤ length s → length (partOf s at len) ≡ len
+length-part s at len h = rw (part-in s at len h) (length-take-le len (drop at s) (rw length-drop (omega arith)))
+
+-- A part that has not the length asked for is empty: it lies outside.
+pub part-none : (s b : List ℕ) (at len : ℕ) → b ≡ partOf s at len → (length b ≡ len → ⊥) → partOf s at len ≡ []
+part-none s b at len e n = go (leb (at + len) (length s)) refl
+  where
+    go : (t : Bool) → leb (at + len) (length s) ≡ t → partOf s at len ≡ []
+    go true q = absurd (n (ap length e ∙ length-part s at len (leb-true _ _ q)))
+    go false q = part-out s at len (leb-false _ _ q)
+
+-- The part where a piece of a record stands is that piece.
+pub part-piece : (before piece after : List ℕ) (at len : ℕ) → length before ≡ at → length piece ≡ len → partOf (before ++ (piece ++ after)) at len ≡ piece
+part-piece before piece after at len p q =
+    let inside : at + len ≤ length (before ++ (piece ++ after)) = rw (length-append, length-append) (omega arith) in
+    part-in _ at len inside ∙ ap (take len) (drop-at before (piece ++ after) at p) ∙ take-at piece after len q
+
+-- A part of the first of two runs, and of the second.
+pub part-left : (s t : List ℕ) (at len : ℕ) → at + len ≤ length s → partOf (s ++ t) at len ≡ partOf s at len
+part-left s t at len h =
+    let inside : at + len ≤ length (s ++ t) = rw length-append (omega arith) in
+    let start : at ≤ length s = omega arith in
+    let rest : len ≤ length (drop at s) = rw length-drop (omega arith) in
+    rw (part-in (s ++ t) at len inside, part-in s at len h, drop-append-le at s t start, take-append-le len (drop at s) t rest)
+
+pub part-right : (s t : List ℕ) (at len : ℕ) → partOf (s ++ t) (length s + at) len ≡ partOf t at len
+unfolding partOf
+part-right s t at len =
+    let same : leb (length s + at + len) (length (s ++ t)) ≡ leb (at + len) (length t) =
+    rw (length-append s t) (leb-same (length s + at + len) (length s + length t) (at + len) (length t) (λ h. omega arith) (λ h. omega arith))
+    in
+    rw (same, ← (drop-drop at (length s) (s ++ t)), drop-append-seam)
+
+-- Parts that follow each other make the part that they cover; the part that covers all is the whole.
+pub part-next : (s : List ℕ) (at m n : ℕ) → at + m + n ≤ length s → partOf s at m ++ partOf s (at + m) n ≡ partOf s at (m + n)
+part-next s at m n h =
+    let first : at + m ≤ length s = omega arith in
+    let both : at + (m + n) ≤ length s = omega arith in
+    rw (part-in s at m first, part-in s (at + m) n h, part-in s at (m + n) both, take-add m n (drop at s), drop-drop m at s)
+
+pub part-whole : (s : List ℕ) → partOf s 0 (length s) ≡ s
+part-whole s = part-in s 0 (length s) (omega arith) ∙ take-length s
+
+-- A record is the pieces before its k-th, that one, and those after.
+pub joined-split : (pieces : List (List ℕ)) (k : ℕ) → joined pieces ≡ joined (take k pieces) ++ (getD pieces k [] ++ joined (drop (suc k) pieces))
+unfolding joined
+joined-split [] zero = refl
+joined-split [] (suc k) = refl
+joined-split (piece ∷ pieces) zero = refl
+joined-split (piece ∷ pieces) (suc k) = ap (λ t. piece ++ t) (joined-split pieces k) ∙ sym (append-assoc piece _ _)
+
+-- The part where the k-th piece of a record stands is that piece: one line for each.
+pub piece-part : (pieces : List (List ℕ)) (k at len : ℕ) → length (joined (take k pieces)) ≡ at → length (getD pieces k []) ≡ len
+    → partOf (joined pieces) at len ≡ getD pieces k []
+piece-part pieces k at len p q = rw (joined-split pieces k) (part-piece (joined (take k pieces)) (getD pieces k []) (joined (drop (suc k) pieces)) at len p q)

@@ -1,0 +1,71 @@
+-- Laws of bytes put into a lent part.
+use Prim.Native.Nat.{ℕ, zero, suc, _+_, _-_, _≤_, _<_, _*_}
+use native.Mathlib.Omega.{arith}
+use mathlib.Core.Bool.{Bool, true, false, cond}
+use mathlib.Core.Path.{_≡_, refl, sym, ap, _∙_}
+use mathlib.Core.List.{List, [], _∷_, _++_, append-assoc, append-nil}
+use lib.Dec.{leb}
+use lib.ListN.{length, getD, take, drop, length-append, length-drop, drop-of-length-le}
+use lib.Seq.{sets, sets-eq, take-at, drop-at, drop-drop, length-take-le}
+use borrow.Author.Tests.{le-leb, lt-leb, leb-true, leb-false}
+use borrow.Rule.Slice.PartMut.{midOf, putMid, mid-len, post-is}
+use Rattle.wire.specs.Numbers.{leBytes}
+use Rattle.wire.specs.Parts.{onto, joined, le32Bytes}
+use Rattle.wire.proofs.Numbers.{length-leBytes}
+
+pub onto-in : (bs s : List ℕ) → length bs ≤ length s → onto bs s ≡ bs ++ drop (length bs) s
+unfolding onto
+onto-in bs s h = rw (le-leb (length bs) (length s) h)
+
+pub onto-out : (bs s : List ℕ) → length s < length bs → onto bs s ≡ s
+unfolding onto
+onto-out bs s h = rw (lt-leb (length bs) (length s) h)
+
+-- A lent part keeps its length.
+pub length-onto : (bs s : List ℕ) → length (onto bs s) ≡ length s
+length-onto bs s = go (leb (length bs) (length s)) refl
+  where
+    go : (t : Bool) → leb (length bs) (length s) ≡ t → length (onto bs s) ≡ length s
+    go true q = let h = leb-true _ _ q in rw (onto-in bs s h, length-append, length-drop) (omega arith)
+    go false q = rw (onto-out bs s (leb-false _ _ q))
+
+-- Bytes that fill the part whole.
+pub onto-whole : (bs s : List ℕ) → length bs ≡ length s → onto bs s ≡ bs
+onto-whole bs s h = onto-in bs s (omega arith) ∙ ap (λ t. bs ++ t) (drop-of-length-le s {i = length bs} (omega arith)) ∙ append-nil bs
+
+-- Of what was put at the start: that part is those bytes, and the rest is as it was.
+pub take-onto : (bs s : List ℕ) → length bs ≤ length s → take (length bs) (onto bs s) ≡ bs
+take-onto bs s h = rw (onto-in bs s h) (take-at bs (drop (length bs) s) (length bs) refl)
+
+pub drop-onto : (bs s : List ℕ) → length bs ≤ length s → drop (length bs) (onto bs s) ≡ drop (length bs) s
+drop-onto bs s h = rw (onto-in bs s h) (drop-at bs (drop (length bs) s) (length bs) refl)
+
+-- A record so far, `done`, at the start of s; the part of it from a to e is lent, bs is put there, and the part comes back:
+-- the record is `done`, then bs.
+pub lent : (done bs s : List ℕ) (a e : ℕ) {now last : List ℕ} → now ≡ onto done s → length done ≡ a → a + length bs ≡ e → e ≤ length s
+    → last ≡ onto bs (midOf a (e - a) now) → putMid a (e - a) now last ≡ onto (done ++ bs) s
+lent done bs s a e {now} {last} n p b h l =
+    let so-far : now ≡ done ++ drop a s = n ∙ onto-in done s (omega arith) ∙ ap (λ k. done ++ drop k s) p in
+    let before : take a now ≡ done = ap (take a) so-far ∙ take-at done (drop a s) a p in
+    let behind : drop a now ≡ drop a s = ap (drop a) so-far ∙ drop-at done (drop a s) a p in
+    let size : length bs ≡ length (midOf a (e - a) now) = rw (behind, length-take-le (e - a) (drop a s) (rw length-drop (omega arith))) (omega arith) in
+    let put : last ≡ bs = l ∙ onto-whole bs _ size in
+    let whole : length (done ++ bs) ≡ e = length-append done bs ∙ omega arith in
+    let end : a + (e - a) ≡ e = omega arith in
+    rw (before, put, behind, drop-drop (e - a) a s, end, onto-in (done ++ bs) s (omega arith), whole, append-assoc)
+
+-- Nothing put changes nothing.
+pub onto-none : (s : List ℕ) → onto [] s ≡ s
+onto-none s = onto-in [] s (omega arith)
+
+-- Numbers one after the other: their length, and one more of them.
+pub length-le32Bytes : (xs : List ℕ) → length (le32Bytes xs) ≡ 4 * length xs
+unfolding le32Bytes joined
+length-le32Bytes [] = refl
+length-le32Bytes (x ∷ xs) = rw (length-append, length-leBytes, length-le32Bytes xs) (omega arith)
+
+pub le32Bytes-next : (xs : List ℕ) (i : ℕ) → i < length xs → le32Bytes (take (suc i) xs) ≡ le32Bytes (take i xs) ++ leBytes 4 (getD xs i 0)
+unfolding le32Bytes joined
+le32Bytes-next (x ∷ xs) zero h = append-nil (leBytes 4 x)
+le32Bytes-next (x ∷ xs) (suc i) h = ap (λ t. leBytes 4 x ++ t) (le32Bytes-next xs i (omega arith)) ∙ sym (append-assoc (leBytes 4 x) _ _)
+le32Bytes-next [] i h = absurd (omega arith)
