@@ -1,5 +1,9 @@
-# make test: the formatter's layout, then every proof, must-fail edit and program, from nothing.
-.PHONY: test fmt
+# make run: the papers' bench cases. make test: the whole gate.
+.PHONY: run test fmt
+
+run:
+	@rt check vectors > target/run.log 2>&1 || { cat target/run.log; exit 1; }
+	@target/bin/vectors
 
 test:
 	@rt fmt --check && rt ci

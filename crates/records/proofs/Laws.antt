@@ -1,9 +1,8 @@
 -- Laws of a writer's answer.
-use Prim.Native.Nat.{ℕ, _≤_, _<_}
+use Prim.Native.Nat.{ℕ, _≤_}
 use native.Mathlib.Omega.{arith}
-use mathlib.Core.Bool.{Bool, true, false}
 use mathlib.Core.List.{List}
-use mathlib.Core.Path.{_≡_, refl, sym, ap, _∙_}
+use mathlib.Core.Path.{_≡_, refl}
 use lib.Dec.{ltb}
 use lib.ListN.{length, take, drop}
 use borrow.Author.Tests.{ltb-false, le-ltb}
@@ -12,10 +11,8 @@ use Rattle.refusal.specs.declared.Outcome.the-variants as outcome
 use Rattle.refusal.specs.declared.Refusal.{Refusal}
 use Rattle.refusal.specs.declared.Refusal.the-variants.{NoRoom}
 use Rattle.refusal.specs.Chain.{refuseIf}
-use Rattle.refusal.specs.Number.{outcomeNumber, numberOf}
-use Rattle.wire.specs.Parts.{onto}
+use Rattle.refusal.proofs.Cases.{by-cases}
 use Rattle.wire.proofs.Writing.{take-onto, drop-onto}
-use Rattle.records.specs.declared.Written.{Written}
 use Rattle.records.specs.declared.Written.the-variants.{Length, Refused}
 use Rattle.records.specs.Writing.{writtenOf, withLength, outputOf}
 
@@ -26,11 +23,11 @@ written-accepted (outcome.Refused r) len room n e = absurd (apart e)
   where
     apart : {r : Refusal} {n : ℕ} → Refused r ≡ Length n → ⊥
     apart e = let z : _≡_ {A = ℕ} 0 1 = cc in omega arith
-written-accepted outcome.Accepted len room n e = go (ltb room len) refl
-  where
-    go : (t : Bool) → ltb room len ≡ t → (outcome.Accepted ≡ outcome.Accepted) × (len ≤ room) × (n ≡ len)
-    go true q = let z : _≡_ {A = ℕ} 0 1 = cc (ap (λ t. withLength len (refuseIf outcome.Accepted t NoRoom)) q) in absurd (omega arith)
-    go false q = (refl, ltb-false room len q, cc (ap (λ t. withLength len (refuseIf outcome.Accepted t NoRoom)) q))
+written-accepted outcome.Accepted len room n e =
+    by-cases (λ t. withLength len (refuseIf outcome.Accepted t NoRoom) ≡ Length n → (outcome.Accepted ≡ outcome.Accepted) × (len ≤ room) × (n ≡ len)) (ltb room len)
+    (λ q w. let z : _≡_ {A = ℕ} 0 1 = cc in absurd (omega arith))
+    (λ q w. (refl, ltb-false room len q, cc))
+    e
 
 pub accepted-written : (len room : ℕ) → len ≤ room → writtenOf outcome.Accepted len room ≡ Length len
 unfolding writtenOf withLength refuseIf

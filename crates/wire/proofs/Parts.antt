@@ -1,23 +1,19 @@
 -- Laws of parts: those that lie inside, those that do not, parts of what was put together, and parts that follow each other.
-use Prim.Native.Nat.{ℕ, zero, suc, _+_, _-_, _≤_, _<_}
-use native.Mathlib.Nat.{add-sub-cancel-left}
+use Prim.Native.Nat.{ℕ, zero, suc, _+_, _≤_, _<_}
 use native.Mathlib.Omega.{arith}
 use mathlib.Core.Path.{_≡_, refl, sym, ap, _∙_}
 use mathlib.Core.List.{List, [], _∷_, _++_, append-assoc}
-use lib.ListN.{length, getD, take, drop, length-append, length-take, length-drop}
+use lib.ListN.{length, getD, take, drop, length-append, length-drop}
 use lib.Seq.{length-take-le, take-at, drop-at, take-add, drop-drop, take-length, take-append-le, drop-append-le, drop-append-seam}
-use mathlib.Core.Bool.{Bool, true, false}
 use lib.Dec.{leb}
 use borrow.Author.Tests.{le-leb, lt-leb, leb-true, leb-false}
+use Rattle.refusal.proofs.Cases.{by-cases}
 use Rattle.wire.specs.Parts.{partOf, startOf, joined}
 
 -- two tests of orders that hold together and fail together
 pub leb-same : (a b c d : ℕ) → (a ≤ b → c ≤ d) → (b < a → d < c) → leb a b ≡ leb c d
-leb-same a b c d holds fails = go (leb a b) refl
-  where
-    go : (t : Bool) → leb a b ≡ t → leb a b ≡ leb c d
-    go true q = q ∙ sym (le-leb c d (holds (leb-true a b q)))
-    go false q = q ∙ sym (lt-leb c d (fails (leb-false a b q)))
+leb-same a b c d holds fails =
+    by-cases (λ t. t ≡ leb c d) (leb a b) (λ q. sym (le-leb c d (holds (leb-true a b q)))) (λ q. sym (lt-leb c d (fails (leb-false a b q))))
 
 pub part-in : (s : List ℕ) (at len : ℕ) → at + len ≤ length s → partOf s at len ≡ take len (drop at s)
 unfolding partOf
@@ -41,11 +37,10 @@ length-part s at len h = rw (part-in s at len h) (length-take-le len (drop at s)
 
 -- A part that has not the length asked for is empty: it lies outside.
 pub part-none : (s b : List ℕ) (at len : ℕ) → b ≡ partOf s at len → (length b ≡ len → ⊥) → partOf s at len ≡ []
-part-none s b at len e n = go (leb (at + len) (length s)) refl
-  where
-    go : (t : Bool) → leb (at + len) (length s) ≡ t → partOf s at len ≡ []
-    go true q = absurd (n (ap length e ∙ length-part s at len (leb-true _ _ q)))
-    go false q = part-out s at len (leb-false _ _ q)
+part-none s b at len e n =
+    by-cases (λ _. partOf s at len ≡ []) (leb (at + len) (length s))
+    (λ q. absurd (n (ap length e ∙ length-part s at len (leb-true _ _ q))))
+    (λ q. part-out s at len (leb-false _ _ q))
 
 -- The part where a piece of a record stands is that piece.
 pub part-piece : (before piece after : List ℕ) (at len : ℕ) → length before ≡ at → length piece ≡ len → partOf (before ++ (piece ++ after)) at len ≡ piece

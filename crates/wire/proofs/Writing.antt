@@ -1,14 +1,14 @@
 -- Laws of bytes put into a lent part.
 use Prim.Native.Nat.{ℕ, zero, suc, _+_, _-_, _≤_, _<_, _*_}
 use native.Mathlib.Omega.{arith}
-use mathlib.Core.Bool.{Bool, true, false, cond}
 use mathlib.Core.Path.{_≡_, refl, sym, ap, _∙_}
 use mathlib.Core.List.{List, [], _∷_, _++_, append-assoc, append-nil}
 use lib.Dec.{leb}
 use lib.ListN.{length, getD, take, drop, length-append, length-drop, drop-of-length-le}
-use lib.Seq.{sets, sets-eq, take-at, drop-at, drop-drop, length-take-le}
+use lib.Seq.{take-at, drop-at, drop-drop, length-take-le}
 use borrow.Author.Tests.{le-leb, lt-leb, leb-true, leb-false}
-use borrow.Rule.Slice.PartMut.{midOf, putMid, mid-len, post-is}
+use borrow.Rule.Slice.PartMut.{midOf, putMid}
+use Rattle.refusal.proofs.Cases.{by-cases}
 use Rattle.wire.specs.Numbers.{leBytes}
 use Rattle.wire.specs.Parts.{onto, joined, le32Bytes}
 use Rattle.wire.proofs.Numbers.{length-leBytes}
@@ -23,11 +23,10 @@ onto-out bs s h = rw (lt-leb (length bs) (length s) h)
 
 -- A lent part keeps its length.
 pub length-onto : (bs s : List ℕ) → length (onto bs s) ≡ length s
-length-onto bs s = go (leb (length bs) (length s)) refl
-  where
-    go : (t : Bool) → leb (length bs) (length s) ≡ t → length (onto bs s) ≡ length s
-    go true q = let h = leb-true _ _ q in rw (onto-in bs s h, length-append, length-drop) (omega arith)
-    go false q = rw (onto-out bs s (leb-false _ _ q))
+length-onto bs s =
+    by-cases (λ _. length (onto bs s) ≡ length s) (leb (length bs) (length s))
+    (λ q. let h = leb-true _ _ q in rw (onto-in bs s h, length-append, length-drop) (omega arith))
+    (λ q. rw (onto-out bs s (leb-false _ _ q)))
 
 -- Bytes that fill the part whole.
 pub onto-whole : (bs s : List ℕ) → length bs ≡ length s → onto bs s ≡ bs

@@ -1,0 +1,4 @@
+pub mod Order
+pub mod Times
+pub mod NextOlder
+pub mod TCases

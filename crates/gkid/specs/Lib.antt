@@ -1,0 +1,4 @@
+pub mod Identifier
+pub mod Conversion
+pub mod Start
+pub mod Older

@@ -1,0 +1,83 @@
+// Document 01, "Time and identifiers": conversions, start times and next older identifiers.
+use crate::say;
+use gkid::FileTime;
+use gkid::Gkid;
+use gkid::L0;
+use gkid::L1;
+use gkid::L2;
+use gkid::Older;
+use gkid::Start;
+
+pub fn run() {
+    time(b"time: first reading:", 0);
+    time(b"time: last tick of the first L2 step:", 359_999_999_999);
+    time(b"time: first tick of the second L2 step:", 360_000_000_000);
+    time(b"time: last tick of the first L1 step:", 11_519_999_999_999);
+    time(
+        b"time: first tick of the second L0 step:",
+        368_640_000_000_000,
+    );
+    time(b"time: last reading:", 18_446_744_073_709_551_615);
+    time(b"time: now of the decision's cases:", 1_880_280_000_000_000);
+    start(b"start: highest identifier:", 50_039, 31, 27);
+    start(b"start: one past the highest:", 50_039, 31, 28);
+    start(b"start: L1 index 32:", 0, 32, 0);
+    start(b"start: L2 index 32:", 0, 0, 32);
+    start(b"start: 5 before 21:", 50_040, 32, 0);
+    start(
+        b"start: greatest indices of all:",
+        4_294_967_295,
+        4_294_967_295,
+        4_294_967_295,
+    );
+    older(b"older: within a row:", 5, 3, 7);
+    older(b"older: across rows:", 5, 3, 0);
+    older(
+        b"older: past the highest identifier:",
+        4_294_967_295,
+        31,
+        31,
+    );
+    older(b"older: first of its group:", 5, 0, 0);
+    older(b"older: L1 index 32:", 5, 32, 0);
+    older(b"older: 5 before none:", 5, 0, 32);
+}
+
+fn gkid(l0: u32, l1: u32, l2: u32) -> Gkid {
+    Gkid {
+        l0: L0(l0),
+        l1: L1(l1),
+        l2: L2(l2),
+    }
+}
+
+fn identifier(i: Gkid) {
+    say::number(i.l0.0 as u64);
+    say::number(i.l1.0 as u64);
+    say::number(i.l2.0 as u64);
+}
+
+fn time(name: &[u8], ticks: u64) {
+    say::text(name);
+    identifier(Gkid::at(FileTime(ticks)));
+    say::end();
+}
+
+fn start(name: &[u8], l0: u32, l1: u32, l2: u32) {
+    say::text(name);
+    match gkid(l0, l1, l2).start() {
+        Start::At(time) => say::number(time.0),
+        Start::Refused(refusal) => say::refused(refusal),
+    }
+    say::end();
+}
+
+fn older(name: &[u8], l0: u32, l1: u32, l2: u32) {
+    say::text(name);
+    match gkid(l0, l1, l2).older() {
+        Older::Is(i) => identifier(i),
+        Older::None => say::text(b" NONE"),
+        Older::Refused(refusal) => say::refused(refusal),
+    }
+    say::end();
+}
