@@ -2,7 +2,7 @@
 .PHONY: run test fmt
 
 run:
-	@rt check vectors > target/run.log 2>&1 || { cat target/run.log; exit 1; }
+	@mkdir -p target && rt check vectors > target/run.log 2>&1 || { cat target/run.log; exit 1; }
 	@target/bin/vectors
 
 test:
