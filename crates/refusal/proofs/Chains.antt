@@ -8,6 +8,7 @@ use Rattle.refusal.specs.declared.Refusal.{Refusal}
 use Rattle.refusal.specs.declared.Outcome.{Outcome}
 use Rattle.refusal.specs.declared.Outcome.the-variants.{Accepted, Refused}
 use Rattle.refusal.specs.Chain.{Check, _⇒_, firstOf, refuseIf}
+use Rattle.refusal.proofs.Cases.{cond-else}
 
 -- no check of the chain applies
 abbrev pub Pass : List Check → Type 0
@@ -28,6 +29,21 @@ pub pass-accepted : (checks : List Check) → Pass checks → firstOf checks ≡
 unfolding firstOf
 pass-accepted [] p = refl
 pass-accepted ((applies ⇒ r) ∷ checks) p = rw (p .0) (pass-accepted checks (p .1))
+
+-- a check that applies is the answer, and one that does not leaves it to those after it
+pub first-here : (applies : Bool) (r : Refusal) (checks : List Check) → applies ≡ true → firstOf ((applies ⇒ r) ∷ checks) ≡ Refused r
+unfolding firstOf
+first-here applies r checks e = rw e
+
+pub first-next : (applies : Bool) (r : Refusal) (checks : List Check) → applies ≡ false → firstOf ((applies ⇒ r) ∷ checks) ≡ firstOf checks
+unfolding firstOf
+first-next applies r checks e = rw e
+
+-- chains that begin with the same check agree where what follows it agrees
+pub first-after : (applies : Bool) (r : Refusal) (checks others : List Check) → (applies ≡ false → firstOf checks ≡ firstOf others)
+    → firstOf ((applies ⇒ r) ∷ checks) ≡ firstOf ((applies ⇒ r) ∷ others)
+unfolding firstOf
+first-after applies r checks others = cond-else applies (Refused r)
 
 -- A refusal is that of the first check that applies: none before it does.
 pub record First (checks : List Check) (r : Refusal) : Type 0 where

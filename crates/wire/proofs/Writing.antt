@@ -2,7 +2,7 @@
 use Prim.Native.Nat.{ℕ, zero, suc, _+_, _-_, _≤_, _<_, _*_}
 use native.Mathlib.Omega.{arith}
 use mathlib.Core.Path.{_≡_, refl, sym, ap, _∙_}
-use mathlib.Core.List.{List, [], _∷_, _++_, append-assoc, append-nil}
+use mathlib.Core.List.{List, [], _∷_, _++_, map, append-assoc, append-nil}
 use lib.Dec.{leb}
 use lib.ListN.{length, getD, take, drop, length-append, length-drop, drop-of-length-le}
 use lib.Seq.{take-at, drop-at, drop-drop, length-take-le}
@@ -68,3 +68,9 @@ unfolding le32Bytes joined
 le32Bytes-next (x ∷ xs) zero h = append-nil (leBytes 4 x)
 le32Bytes-next (x ∷ xs) (suc i) h = ap (λ t. leBytes 4 x ++ t) (le32Bytes-next xs i (omega arith)) ∙ sym (append-assoc (leBytes 4 x) _ _)
 le32Bytes-next [] i h = absurd (omega arith)
+
+-- A head of numbers, then bodies.
+pub head-bodies : (xs : List ℕ) (bodies : List (List ℕ)) → joined (map (leBytes 4) xs ++ bodies) ≡ le32Bytes xs ++ joined bodies
+unfolding le32Bytes joined
+head-bodies [] bodies = refl
+head-bodies (x ∷ xs) bodies = ap (λ t. leBytes 4 x ++ t) (head-bodies xs bodies) ∙ sym (append-assoc (leBytes 4 x) _ _)

@@ -1,0 +1,12 @@
+-- `is_outside`: either end lies outside.
+use borrow.Author.Needs.{needs}
+use Rattle.keyentry.specs.Layout.{outside}
+use Rattle.keyentry.proofs.is_outside.Statement.{statement}
+use Rattle.keyentry.proofs.is_outside.Tie as tie
+
+returns : tie.Need-returns
+unfolding outside
+returns c = c .either .ensures
+
+pub is-outside-spec : {M : Type 1} → statement M
+is-outside-spec = tie.close (tie.spec (λ c. search needs) (λ c κs. search needs) returns)

@@ -1,0 +1,45 @@
+-- Document 01, "Key List Entry and list": what the writer makes and answers.
+use Prim.Native.Nat.{ℕ, _+_}
+use mathlib.Core.Bool.{not}
+use mathlib.Core.List.{List, [], _∷_}
+use lib.Dec.{ltb, eqb}
+use lib.ListN.{length}
+use Rattle.refusal.specs.declared.Refusal.the-variants.{TooLong, LengthsDisagree, EmptyItem}
+use Rattle.refusal.specs.Chain.{Check, _⇒_}
+use Rattle.wire.specs.Numbers.{leBytes}
+use Rattle.wire.specs.Parts.{leAt, joined}
+use Rattle.keyentry.specs.Reading.{entryChecks}
+
+-- the entry's length
+abbrev pub entryLength : List ℕ → List ℕ → ℕ
+entryLength item fek = 20 + length item + length fek
+
+-- the head, the public key item at 20, and the FEK straight after
+unfoldable pub entryBytes : ℕ → List ℕ → List ℕ → List ℕ
+entryBytes flags item fek =
+    joined
+    (leBytes 4 (entryLength item fek)
+    ∷ leBytes 4 20
+    ∷ leBytes 4 (length fek)
+    ∷ leBytes 4 (20 + length item)
+    ∷ leBytes 4 flags
+    ∷ item
+    ∷ fek
+    ∷ [])
+
+-- 1, then 7 if the item is under 4 bytes, then 3 unless the item's first four bytes are its length, then as the reader
+unfoldable pub writeChecks : ℕ → List ℕ → List ℕ → List Check
+writeChecks flags item fek =
+    (ltb 65535 (entryLength item fek) ⇒ TooLong)
+    ∷ (ltb (length item) 4 ⇒ EmptyItem)
+    ∷ (not (eqb (leAt 4 item 0) (length item)) ⇒ LengthsDisagree)
+    ∷ entryChecks (entryBytes flags item fek)
+
+-- what of these can apply to an entry of len bytes: of the reader's checks only 7, for an empty FEK (the law is `write-checks`)
+unfoldable pub partChecks : ℕ → List ℕ → List ℕ → List Check
+partChecks len item fek =
+    (ltb 65535 len ⇒ TooLong)
+    ∷ (ltb (length item) 4 ⇒ EmptyItem)
+    ∷ (not (eqb (leAt 4 item 0) (length item)) ⇒ LengthsDisagree)
+    ∷ (eqb (length fek) 0 ⇒ EmptyItem)
+    ∷ []
