@@ -1,0 +1,28 @@
+// Document 01, "Group Key Envelope", 10: the rule that the four texts of an envelope follow.
+ghost use mathlib.Core.Path.{_≡_};
+ghost use Rattle.text.specs.Text.{isText, zeroUnit};
+
+// A text: whole 16-bit units, the last one zero and no earlier one zero.
+pub fn is_text(s: &[u8]) -> bool
+    ensures { λ r. ⌜ r ≡ isText (now (s .entry)) ⌝ }
+{
+    let mut at = 0;
+    while at < s.len() {
+        let left = s.len() - at;
+        if left < 2 {
+            return false;
+        }
+        if is_zero(s[at], s[at + 1]) {
+            return left == 2;
+        }
+        at += 2;
+    }
+    false
+}
+
+// A unit of two bytes is zero.
+fn is_zero(low: u8, high: u8) -> bool
+    ensures { λ r. ⌜ r ≡ zeroUnit low high ⌝ }
+{
+    low == 0 && high == 0
+}
