@@ -1,13 +1,15 @@
 -- Laws of numbers in bytes, shown once over the width: stored and read back, read and stored, and how far a number goes.
-use Prim.Native.Nat.{ℕ, zero, suc, _+_, _*_, _/_, _%_, _^_, _<_}
+use Prim.Native.Nat.{ℕ, zero, suc, _+_, _*_, _/_, _%_, _^_, _≤_, _<_}
 use native.Mathlib.Nat.{pow-suc, pow-succ', mul-assoc}
 use native.Mathlib.Omega.{arith}
 use mathlib.Core.Path.{_≡_, refl, sym, ap, _∙_}
 use mathlib.Core.List.{List, [], _∷_, _++_, reverse, reverseAux, reverse-reverse}
-use lib.ListN.{length, getD, take, length-reverse}
+use lib.Dec.{leb}
+use lib.ListN.{length, getD, take, drop, length-reverse}
 use Rattle.wire.specs.Numbers.{leOf, leBytes, beOf, beBytes}
 use Rattle.wire.specs.Parts.{partOf, leAt, beAt, joined}
-use Rattle.wire.proofs.Parts.{piece-part}
+use Rattle.refusal.proofs.Cases.{cond-cases}
+use Rattle.wire.proofs.Parts.{piece-part, length-part}
 
 -- each element is a byte
 abbrev pub Bytes : List ℕ → Type 0
@@ -91,3 +93,26 @@ pub le-piece : (w : ℕ) (pieces : List (List ℕ)) (k x at : ℕ) → getD piec
     → leAt w (joined pieces) at ≡ x
 unfolding leAt
 le-piece w pieces k x at e h p = ap leOf (piece-part pieces k at w p (ap length e ∙ length-leBytes w x) ∙ e) ∙ le-back w x h
+
+-- A part of bytes is bytes, so that a number that lies inside, read and stored, gives the part.
+bytes-take : (n : ℕ) (s : List ℕ) → Bytes s → Bytes (take n s)
+bytes-take zero s b = tt
+bytes-take (suc n) [] b = tt
+bytes-take (suc n) (x ∷ s) b = (b .0, bytes-take n s (b .1))
+
+bytes-drop : (n : ℕ) (s : List ℕ) → Bytes s → Bytes (drop n s)
+bytes-drop zero s b = b
+bytes-drop (suc n) [] b = tt
+bytes-drop (suc n) (x ∷ s) b = bytes-drop n s (b .1)
+
+pub bytes-part : (s : List ℕ) (at len : ℕ) → Bytes s → Bytes (partOf s at len)
+unfolding partOf
+bytes-part s at len b = cond-cases Bytes (leb (at + len) (length s)) (λ _. bytes-take len (drop at s) (bytes-drop at s b)) (λ _. tt)
+
+pub le-part-back : (w : ℕ) (s : List ℕ) (at : ℕ) → Bytes s → at + w ≤ length s → leBytes w (leAt w s at) ≡ partOf s at w
+unfolding leAt
+le-part-back w s at b h = ap (λ n. leBytes n (leOf (partOf s at w))) (sym (length-part s at w h)) ∙ bytes-back (partOf s at w) (bytes-part s at w b)
+
+pub be-part-back : (w : ℕ) (s : List ℕ) (at : ℕ) → Bytes s → at + w ≤ length s → beBytes w (beAt w s at) ≡ partOf s at w
+unfolding beAt
+be-part-back w s at b h = ap (λ n. beBytes n (beOf (partOf s at w))) (sym (length-part s at w h)) ∙ be-bytes-back (partOf s at w) (bytes-part s at w b)

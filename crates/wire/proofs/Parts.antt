@@ -86,3 +86,19 @@ joined-split (piece ∷ pieces) (suc k) = ap (λ t. piece ++ t) (joined-split pi
 pub piece-part : (pieces : List (List ℕ)) (k at len : ℕ) → length (joined (take k pieces)) ≡ at → length (getD pieces k []) ≡ len
     → partOf (joined pieces) at len ≡ getD pieces k []
 piece-part pieces k at len p q = rw (joined-split pieces k) (part-piece (joined (take k pieces)) (getD pieces k []) (joined (drop (suc k) pieces)) at len p q)
+
+-- a record cut into pieces of given lengths, one after the other from a place on
+abbrev pub cut : List ℕ → ℕ → List ℕ → List (List ℕ)
+cut s at [] = []
+cut s at (n ∷ ns) = partOf s at n ∷ cut s (at + n) ns
+
+abbrev pub total : List ℕ → ℕ
+total [] = 0
+total (n ∷ ns) = n + total ns
+
+-- The pieces of a cut, joined, are the part that they cover.
+pub cut-joined : (s : List ℕ) (at : ℕ) (ns : List ℕ) → at + total ns ≤ length s → joined (cut s at ns) ≡ partOf s at (total ns)
+unfolding joined
+cut-joined s at [] h = sym (part-in s at 0 h)
+cut-joined s at (n ∷ ns) h = ap (λ t. partOf s at n ++ t) (cut-joined s (at + n) ns (omega arith)) ∙ part-next s at n (total ns) (omega arith)
+

@@ -74,3 +74,14 @@ pub head-bodies : (xs : List ℕ) (bodies : List (List ℕ)) → joined (map (le
 unfolding le32Bytes joined
 head-bodies [] bodies = refl
 head-bodies (x ∷ xs) bodies = ap (λ t. leBytes 4 x ++ t) (head-bodies xs bodies) ∙ sym (append-assoc (leBytes 4 x) _ _)
+
+-- the length of a record of pieces, and how long it is before each of them
+abbrev pub sizes : List (List ℕ) → ℕ
+sizes [] = 0
+sizes (piece ∷ pieces) = length piece + sizes pieces
+
+pub length-joined : (pieces : List (List ℕ)) → length (joined pieces) ≡ sizes pieces
+unfolding joined
+length-joined [] = refl
+length-joined (piece ∷ pieces) = length-append piece (joined pieces) ∙ ap (λ n. length piece + n) (length-joined pieces)
+

@@ -1,0 +1,18 @@
+-- `RootId::at`: the two halves of the part.
+use mathlib.Core.Path.{ap, _∙_}
+use Rattle.wire.specs.Parts.{beAt}
+use Rattle.rootid.specs.Root.{rootAt}
+use borrow.Author.Needs.{needs}
+use Rattle.rootid.proofs.RootId.at.Statement.{statement}
+use Rattle.rootid.proofs.RootId.at.Tie as tie
+
+returns : tie.Need-returns
+unfolding rootAt
+returns c =
+    let part = c .before .before .part .ensures .0 in
+    let high = c .before .be64-at .ensures ∙ ap (λ p. beAt 8 p 0) part in
+    let low = c .be64-at2 .ensures ∙ ap (λ p. beAt 8 p 8) part in
+    λ i. record { high = high i; low = low i }
+
+pub at-spec : {M : Type 1} → statement M
+at-spec = tie.close (tie.spec (λ c κs. search needs) (λ c κs. search needs) (λ c κs. search needs) returns)

@@ -1,0 +1,54 @@
+-- Laws of root key identifiers: stored and read back, read and stored, and compared.
+use Prim.Native.Nat.{ℕ, _+_, _^_, _≤_, _<_}
+use native.Mathlib.Omega.{arith}
+use mathlib.Core.Bool.{true, _&&_, false≢true}
+use mathlib.Core.List.{List, [], _++_}
+use mathlib.Core.Path.{_≡_, refl, sym, ap, ap₂, _∙_}
+use lib.Dec.{eqb}
+use lib.ListN.{length, getD, take}
+use borrow.Author.Tests.{eqb-true, eq-eqb}
+use Rattle.refusal.proofs.Cases.{by-cases}
+use Rattle.wire.specs.Numbers.{leBytes, beOf, beBytes}
+use Rattle.wire.specs.Parts.{beAt, partOf, joined}
+use Rattle.wire.proofs.Numbers.{Bytes, be-back, bytes-part, be-part-back}
+use Rattle.wire.proofs.Parts.{piece-part, part-whole, part-next, length-part}
+use Rattle.rootid.specs.declared.RootId.{RootId}
+use Rattle.rootid.specs.Root.{rootAt, rootBytes, sameRoot}
+
+pub length-rootBytes : (r : RootId) → length (rootBytes r) ≡ 16
+unfolding rootBytes beBytes leBytes
+length-rootBytes r = refl
+
+halves : (r : RootId) → r .high < 2 ^ 64 → r .low < 2 ^ 64 → (beOf (partOf (rootBytes r) 0 8) ≡ r .high) × (beOf (partOf (rootBytes r) 8 8) ≡ r .low)
+unfolding rootBytes beBytes leBytes partOf
+halves r high low = (be-back 8 (r .high) high, be-back 8 (r .low) low)
+
+-- Stored as the k-th piece of a record, and read back.
+pub root-piece : (pieces : List (List ℕ)) (k : ℕ) (r : RootId) (at : ℕ) → getD pieces k [] ≡ rootBytes r → r .high < 2 ^ 64 → r .low < 2 ^ 64
+    → length (joined (take k pieces)) ≡ at → rootAt (joined pieces) at ≡ r
+unfolding rootAt beAt
+root-piece pieces k r at e high low p =
+    let part : partOf (joined pieces) at 16 ≡ rootBytes r = piece-part pieces k at 16 p (ap length e ∙ length-rootBytes r) ∙ e in
+    rw part (λ i. record { high = halves r high low .0 i; low = halves r high low .1 i })
+
+-- Read from bytes, and stored: the same bytes.
+pub root-bytes : (s : List ℕ) (at : ℕ) → Bytes s → at + 16 ≤ length s → rootBytes (rootAt s at) ≡ partOf s at 16
+unfolding rootAt rootBytes
+root-bytes s at b h =
+    let p = partOf s at 16 in
+    let bp = bytes-part s at 16 b in
+    let size = length-part s at 16 h in
+    ap₂ (λ x y. x ++ y) (be-part-back 8 p 0 bp (omega arith)) (be-part-back 8 p 8 bp (omega arith))
+    ∙ part-next p 0 8 8 (omega arith) ∙ ap (partOf p 0) (sym size) ∙ part-whole p
+
+-- Compared: the same exactly where both halves are.
+pub same-root : (a b : RootId) → sameRoot a b ≡ true → a ≡ b
+unfolding sameRoot
+same-root a b =
+    by-cases (λ t. t && eqb (a .low) (b .low) ≡ true → a ≡ b) (eqb (a .high) (b .high))
+    (λ p q i. record { high = eqb-true (a .high) (b .high) p i; low = eqb-true (a .low) (b .low) q i })
+    (λ p q. absurd (false≢true q))
+
+pub root-same : (a : RootId) → sameRoot a a ≡ true
+unfolding sameRoot
+root-same a = rw (eq-eqb (a .high) (a .high) refl, eq-eqb (a .low) (a .low) refl)
