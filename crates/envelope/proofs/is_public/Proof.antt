@@ -1,0 +1,9 @@
+-- `is_public`: the lowest bit.
+use mathlib.Core.Path.{refl}
+use Rattle.envelope.specs.Layout.{isPublic}
+use Rattle.envelope.proofs.is_public.Statement.{statement}
+use Rattle.envelope.proofs.is_public.Tie as tie
+
+pub is-public-spec : {M : Type 1} → statement M
+unfolding isPublic
+is-public-spec = tie.close (tie.spec (λ c. refl))

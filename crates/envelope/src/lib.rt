@@ -1,0 +1,281 @@
+// Document 01, "Group Key Envelope" (MS-GKDI 2.2.4): envelopes read and written.
+ghost use mathlib.Core.Path.{_≡_};
+ghost use Prim.Native.Nat.{_+_};
+ghost use lib.ListN.{length};
+ghost use Rattle.refusal.specs.Chain.{firstOf};
+ghost use Rattle.wire.specs.Parts.{startOf, partOf};
+ghost use mathlib.Core.Bool.{not};
+ghost use Rattle.text.specs.Text.{isText};
+ghost use Rattle.reach.specs.KeyRule.{keysAllowed};
+ghost use Rattle.envelope.specs.Layout.{headOf, isPublic, lengthsOf, endAt, bodiesOf, bodySpan};
+ghost use Rattle.envelope.specs.Reading.{layoutChecks, envelopeOf, spanOf, envelopeSpan, envelopeBody};
+use gkid::Gkid;
+use gkid::L0;
+use gkid::L1;
+use gkid::L2;
+use records::LIMIT;
+use refusal::Outcome;
+use refusal::Refusal;
+use rootid::RootId;
+use wire::Span;
+use wire::le32_at;
+
+// The head's values. The private and the public key length have no body.
+pub struct Head {
+    pub version: u32,
+    pub flags: u32,
+    pub at: Gkid,
+    pub root: RootId,
+    pub privatelen: u32,
+    pub publiclen: u32,
+}
+
+// The eight body lengths, in the order in which the head has them.
+struct Lengths {
+    kdf: u32,
+    kdfparams: u32,
+    agreement: u32,
+    agreeparams: u32,
+    l1key: u32,
+    l2key: u32,
+    domain: u32,
+    forest: u32,
+}
+
+// Where the eight bodies stand, in their order.
+pub struct Bodies {
+    pub kdf: Span,
+    pub kdfparams: Span,
+    pub agreement: Span,
+    pub agreeparams: Span,
+    pub domain: Span,
+    pub forest: Span,
+    pub l1key: Span,
+    pub l2key: Span,
+}
+
+pub struct Envelope {
+    pub head: Head,
+    pub bodies: Bodies,
+}
+
+pub enum EnvelopeRead {
+    Accepted(Envelope),
+    Refused(Refusal),
+}
+
+pub enum EnvelopePart {
+    Kdf,
+    KdfParameters,
+    Agreement,
+    AgreementParameters,
+    Domain,
+    Forest,
+    L1Key,
+    L2Key,
+}
+
+// "Bit 31 (LSB)" of dwFlags has the value 1.
+pub fn is_public(flags: u32) -> bool
+    ensures { λ r. ⌜ r ≡ isPublic flags ⌝ }
+{
+    flags % 2 == 1
+}
+
+// The envelope that s is, or the refusal.
+pub fn read(s: &[u8]) -> EnvelopeRead
+    ensures { λ r. ⌜ r ≡ envelopeOf (now (s .entry)) ⌝ }
+{
+    if LIMIT < s.len() {
+        return EnvelopeRead::Refused(Refusal::TooLong);
+    }
+    if s.len() < 80 {
+        return EnvelopeRead::Refused(Refusal::Short);
+    }
+    let head = head_of(s);
+    let lengths = lengths_of(s);
+    match judge(s, le32_at(s, 4), head, lengths) {
+        Outcome::Accepted => EnvelopeRead::Accepted(Envelope {
+            head,
+            bodies: bodies_of(lengths),
+        }),
+        Outcome::Refused(refusal) => EnvelopeRead::Refused(refusal),
+    }
+}
+
+fn head_of(s: &[u8]) -> Head
+    ensures { λ r. ⌜ r ≡ headOf (now (s .entry)) ⌝ }
+{
+    Head {
+        version: le32_at(s, 0),
+        flags: le32_at(s, 8),
+        at: Gkid {
+            l0: L0(le32_at(s, 12)),
+            l1: L1(le32_at(s, 16)),
+            l2: L2(le32_at(s, 20)),
+        },
+        root: RootId::at(s, 24),
+        privatelen: le32_at(s, 56),
+        publiclen: le32_at(s, 60),
+    }
+}
+
+// Domain and forest lengths come after the keys' lengths.
+fn lengths_of(s: &[u8]) -> Lengths
+    ensures { λ r. ⌜ r ≡ lengthsOf (now (s .entry)) ⌝ }
+{
+    Lengths {
+        kdf: le32_at(s, 40),
+        kdfparams: le32_at(s, 44),
+        agreement: le32_at(s, 48),
+        agreeparams: le32_at(s, 52),
+        l1key: le32_at(s, 64),
+        l2key: le32_at(s, 68),
+        domain: le32_at(s, 72),
+        forest: le32_at(s, 76),
+    }
+}
+
+// Domain and forest bodies come before the keys.
+fn bodies_of(n: Lengths) -> Bodies
+    ensures { λ r. ⌜ r ≡ bodiesOf n ⌝ }
+{
+    let kdfparams = 80 + n.kdf as usize;
+    let agreement = kdfparams + n.kdfparams as usize;
+    let agreeparams = agreement + n.agreement as usize;
+    let domain = agreeparams + n.agreeparams as usize;
+    let forest = domain + n.domain as usize;
+    let l1key = forest + n.forest as usize;
+    let l2key = l1key + n.l1key as usize;
+    Bodies {
+        kdf: Span {
+            at: 80,
+            len: n.kdf as usize,
+        },
+        kdfparams: Span {
+            at: kdfparams,
+            len: n.kdfparams as usize,
+        },
+        agreement: Span {
+            at: agreement,
+            len: n.agreement as usize,
+        },
+        agreeparams: Span {
+            at: agreeparams,
+            len: n.agreeparams as usize,
+        },
+        domain: Span {
+            at: domain,
+            len: n.domain as usize,
+        },
+        forest: Span {
+            at: forest,
+            len: n.forest as usize,
+        },
+        l1key: Span {
+            at: l1key,
+            len: n.l1key as usize,
+        },
+        l2key: Span {
+            at: l2key,
+            len: n.l2key as usize,
+        },
+    }
+}
+
+// Where the last body ends: 80 plus the eight lengths.
+fn end_of(n: Lengths) -> usize
+    ensures { λ r. ⌜ r ≡ endAt n ⌝ }
+{
+    80
+        + n.kdf as usize
+        + n.kdfparams as usize
+        + n.agreement as usize
+        + n.agreeparams as usize
+        + n.domain as usize
+        + n.forest as usize
+        + n.l1key as usize
+        + n.l2key as usize
+}
+
+// The checks after 1 and 2.
+fn judge(s: &[u8], marked: u32, head: Head, n: Lengths) -> Outcome
+    ensures { λ r. ⌜ r ≡ firstOf (layoutChecks (now (s .entry)) marked head n) ⌝ }
+{
+    let bodies = bodies_of(n);
+    let at = head.at;
+    Outcome::Accepted
+        .refuse_if(marked != 0x4B53444B, Refusal::WrongMark)
+        .refuse_if(at.index_above_31(), Refusal::IndexAbove31)
+        .refuse_if(end_of(n) != s.len(), Refusal::LengthsDisagree)
+        .refuse_if(
+            is_malformed(s, bodies, EnvelopePart::Kdf),
+            Refusal::MalformedText,
+        )
+        .refuse_if(
+            is_malformed(s, bodies, EnvelopePart::Agreement),
+            Refusal::MalformedText,
+        )
+        .refuse_if(
+            is_malformed(s, bodies, EnvelopePart::Domain),
+            Refusal::MalformedText,
+        )
+        .refuse_if(
+            is_malformed(s, bodies, EnvelopePart::Forest),
+            Refusal::MalformedText,
+        )
+        .refuse_if(
+            breaks_key_rule(head, n.l1key as usize, n.l2key as usize),
+            Refusal::KeyLength,
+        )
+}
+
+// A body that has to be a text is none.
+fn is_malformed(s: &[u8], bodies: Bodies, which: EnvelopePart) -> bool
+    ensures { λ r. ⌜ r ≡ not (isText (partOf (now (s .entry)) (bodySpan bodies which .at) (bodySpan bodies which .len))) ⌝ }
+{
+    !text::is_text(wire::part(s, span_in(bodies, which)))
+}
+
+fn breaks_key_rule(head: Head, l1: usize, l2: usize) -> bool
+    ensures { λ r. ⌜ r ≡ not (keysAllowed (isPublic (head .flags)) (head .at) (head .publiclen) l1 l2) ⌝ }
+{
+    let at = head.at;
+    !reach::keys_allowed(is_public(head.flags), at, head.publiclen as usize, l1, l2)
+}
+
+fn span_in(bodies: Bodies, which: EnvelopePart) -> Span
+    ensures { λ r. ⌜ r ≡ bodySpan bodies which ⌝ }
+{
+    match which {
+        EnvelopePart::Kdf => bodies.kdf,
+        EnvelopePart::KdfParameters => bodies.kdfparams,
+        EnvelopePart::Agreement => bodies.agreement,
+        EnvelopePart::AgreementParameters => bodies.agreeparams,
+        EnvelopePart::Domain => bodies.domain,
+        EnvelopePart::Forest => bodies.forest,
+        EnvelopePart::L1Key => bodies.l1key,
+        EnvelopePart::L2Key => bodies.l2key,
+    }
+}
+
+// The bytes of a body: those very bytes of s, or the empty part on any refusal and for an absent body.
+pub fn part(s: &[u8], which: EnvelopePart) -> &[u8]
+    ensures bytes { λ r. ⌜ now r ≡ envelopeBody (now (s .entry)) which ⌝ }
+    ensures place { λ r. ⌜ (r .ptr .0 ≡ s .entry .ptr .0) × (r .ptr .1 ≡ s .entry .ptr .1 + startOf (now (s .entry)) (envelopeSpan (now (s .entry)) which .at) (envelopeSpan (now (s .entry)) which .len)) ⌝ }
+{
+    wire::part(s, span_of(read(s), which))
+}
+
+// Where a body stands, or 0 and 0 on a refusal.
+pub fn span_of(read: EnvelopeRead, which: EnvelopePart) -> Span
+    ensures { λ r. ⌜ r ≡ spanOf read which ⌝ }
+{
+    match read {
+        EnvelopeRead::Accepted(envelope) => {
+            let bodies = envelope.bodies;
+            span_in(bodies, which)
+        }
+        EnvelopeRead::Refused(_) => Span { at: 0, len: 0 },
+    }
+}
