@@ -102,3 +102,9 @@ unfolding joined
 cut-joined s at [] h = sym (part-in s at 0 h)
 cut-joined s at (n ∷ ns) h = ap (λ t. partOf s at n ++ t) (cut-joined s (at + n) ns (omega arith)) ∙ part-next s at n (total ns) (omega arith)
 
+-- Records put together piece by piece.
+pub joined-append : (pieces others : List (List ℕ)) → joined (pieces ++ others) ≡ joined pieces ++ joined others
+unfolding joined
+joined-append [] others = refl
+joined-append (piece ∷ pieces) others = ap (λ t. piece ++ t) (joined-append pieces others) ∙ sym (append-assoc piece _ _)
+

@@ -12,6 +12,7 @@ use Rattle.refusal.proofs.Cases.{by-cases}
 use Rattle.wire.specs.Numbers.{leBytes}
 use Rattle.wire.specs.Parts.{onto, joined, le32Bytes}
 use Rattle.wire.proofs.Numbers.{length-leBytes}
+use Rattle.wire.proofs.Parts.{joined-append}
 
 pub onto-in : (bs s : List ℕ) → length bs ≤ length s → onto bs s ≡ bs ++ drop (length bs) s
 unfolding onto
@@ -71,9 +72,8 @@ le32Bytes-next [] i h = absurd (omega arith)
 
 -- A head of numbers, then bodies.
 pub head-bodies : (xs : List ℕ) (bodies : List (List ℕ)) → joined (map (leBytes 4) xs ++ bodies) ≡ le32Bytes xs ++ joined bodies
-unfolding le32Bytes joined
-head-bodies [] bodies = refl
-head-bodies (x ∷ xs) bodies = ap (λ t. leBytes 4 x ++ t) (head-bodies xs bodies) ∙ sym (append-assoc (leBytes 4 x) _ _)
+unfolding le32Bytes
+head-bodies xs bodies = joined-append (map (leBytes 4) xs) bodies
 
 -- the length of a record of pieces, and how long it is before each of them
 abbrev pub sizes : List (List ℕ) → ℕ
@@ -84,4 +84,3 @@ pub length-joined : (pieces : List (List ℕ)) → length (joined pieces) ≡ si
 unfolding joined
 length-joined [] = refl
 length-joined (piece ∷ pieces) = length-append piece (joined pieces) ∙ ap (λ n. length piece + n) (length-joined pieces)
-

@@ -1,0 +1,4 @@
+pub mod ExactlyWhen
+pub mod Parts
+pub mod Writing
+pub mod ReadBack

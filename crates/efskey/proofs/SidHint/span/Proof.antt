@@ -1,0 +1,10 @@
+-- `SidHint::span`: an absent SID is told by its case.
+use borrow.Author.Needs.{needs}
+use Rattle.efskey.proofs.SidHint.span.Statement.{statement}
+use Rattle.efskey.proofs.SidHint.span.Tie as tie
+
+returns : tie.Need-returns
+returns c = rw (c .enum-told .given .1)
+
+pub span-spec : {M : Type 1} → statement M
+span-spec = tie.close (tie.spec (λ c. search needs) (λ c. search needs) returns (λ c. search needs))
