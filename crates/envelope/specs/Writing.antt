@@ -1,20 +1,24 @@
 -- Document 01, "Group Key Envelope": what the writer makes and which checks can apply to it.
 use Prim.Native.Nat.{ℕ, _+_}
 use mathlib.Core.Bool.{not}
-use mathlib.Core.List.{List, [], _∷_}
+use mathlib.Core.Path.{_≡_}
+use mathlib.Core.List.{List, [], _∷_, _++_}
 use lib.Dec.{ltb}
 use lib.ListN.{length}
 use Rattle.refusal.specs.declared.Refusal.the-variants.{TooLong, IndexAbove31, MalformedText, KeyLength}
-use Rattle.refusal.specs.Chain.{Check, _⇒_}
+use Rattle.refusal.specs.Chain.{Check, _⇒_, firstOf}
 use Rattle.wire.specs.Numbers.{leBytes}
 use Rattle.wire.specs.Parts.{joined}
 use Rattle.gkid.specs.Identifier.{indexAbove31}
 use Rattle.rootid.specs.Root.{rootBytes}
 use Rattle.text.specs.Text.{isText}
 use Rattle.reach.specs.KeyRule.{keysAllowed}
+use Rattle.records.specs.declared.Written.{Written}
+use Rattle.records.specs.Writing.{writtenOf, outputOf}
 use Rattle.envelope.specs.declared.Head.{Head}
 use Rattle.envelope.specs.declared.Lengths.{Lengths}
 use Rattle.envelope.specs.Layout.{mark, isPublic, endAt}
+use Rattle.envelope.specs.Reading.{envelopeChecks}
 
 -- the eight bodies that the writer is given
 pub record Given : Type 0 where
@@ -26,6 +30,9 @@ pub record Given : Type 0 where
   pub forest : List ℕ
   pub l1key : List ℕ
   pub l2key : List ℕ
+
+abbrev pub given : List ℕ → List ℕ → List ℕ → List ℕ → List ℕ → List ℕ → List ℕ → List ℕ → Given
+given a b c d e f k l = record { kdf = a; kdfparams = b; agreement = c; agreeparams = d; domain = e; forest = f; l1key = k; l2key = l }
 
 -- writers derive lengths from what they are given
 abbrev pub givenLengths : Given → Lengths
@@ -41,9 +48,9 @@ givenLengths g =
       forest = length (g .forest);
     }
 
--- the head, then the bodies: domain and forest lengths come after the keys' lengths, but their bodies come before the keys
-abbrev pub pieces : Head → Given → List (List ℕ)
-pieces h g =
+-- the head: domain and forest lengths come after the keys' lengths
+abbrev pub headPieces : Head → Lengths → List (List ℕ)
+headPieces h n =
     leBytes 4 (h .version)
     ∷ mark
     ∷ leBytes 4 (h .flags)
@@ -51,37 +58,43 @@ pieces h g =
     ∷ leBytes 4 (h .at .l1 .0)
     ∷ leBytes 4 (h .at .l2 .0)
     ∷ rootBytes (h .root)
-    ∷ leBytes 4 (length (g .kdf))
-    ∷ leBytes 4 (length (g .kdfparams))
-    ∷ leBytes 4 (length (g .agreement))
-    ∷ leBytes 4 (length (g .agreeparams))
+    ∷ leBytes 4 (n .kdf)
+    ∷ leBytes 4 (n .kdfparams)
+    ∷ leBytes 4 (n .agreement)
+    ∷ leBytes 4 (n .agreeparams)
     ∷ leBytes 4 (h .privatelen)
     ∷ leBytes 4 (h .publiclen)
-    ∷ leBytes 4 (length (g .l1key))
-    ∷ leBytes 4 (length (g .l2key))
-    ∷ leBytes 4 (length (g .domain))
-    ∷ leBytes 4 (length (g .forest))
-    ∷ g .kdf
-    ∷ g .kdfparams
-    ∷ g .agreement
-    ∷ g .agreeparams
-    ∷ g .domain
-    ∷ g .forest
-    ∷ g .l1key
-    ∷ g .l2key
+    ∷ leBytes 4 (n .l1key)
+    ∷ leBytes 4 (n .l2key)
+    ∷ leBytes 4 (n .domain)
+    ∷ leBytes 4 (n .forest)
     ∷ []
+
+-- the bodies: domain and forest come before the keys
+abbrev pub bodyPieces : Given → List (List ℕ)
+bodyPieces g = g .kdf ∷ g .kdfparams ∷ g .agreement ∷ g .agreeparams ∷ g .domain ∷ g .forest ∷ g .l1key ∷ g .l2key ∷ []
+
+abbrev pub pieces : Head → Given → List (List ℕ)
+pieces h g = headPieces h (givenLengths g) ++ bodyPieces g
 
 unfoldable pub envelopeBytes : Head → Given → List ℕ
 envelopeBytes h g = joined (pieces h g)
 
--- what of the reader's checks can apply to an envelope of len bytes: 1, 5, 10, 11 (the law is `write-checks`)
-unfoldable pub givenChecks : ℕ → Head → Given → List Check
-givenChecks len h g =
+-- what of the reader's checks can apply to an envelope of len bytes with these texts and keys of these lengths: 1, 5, 10, 11
+-- (the law is `write-checks`)
+unfoldable pub givenChecks : ℕ → Head → List ℕ → List ℕ → List ℕ → List ℕ → ℕ → ℕ → List Check
+givenChecks len h kdf agreement domain forest l1len l2len =
     (ltb 65535 len ⇒ TooLong)
     ∷ (indexAbove31 (h .at) ⇒ IndexAbove31)
-    ∷ (not (isText (g .kdf)) ⇒ MalformedText)
-    ∷ (not (isText (g .agreement)) ⇒ MalformedText)
-    ∷ (not (isText (g .domain)) ⇒ MalformedText)
-    ∷ (not (isText (g .forest)) ⇒ MalformedText)
-    ∷ (not (keysAllowed (isPublic (h .flags)) (h .at) (h .publiclen) (length (g .l1key)) (length (g .l2key))) ⇒ KeyLength)
+    ∷ (not (isText kdf) ⇒ MalformedText)
+    ∷ (not (isText agreement) ⇒ MalformedText)
+    ∷ (not (isText domain) ⇒ MalformedText)
+    ∷ (not (isText forest) ⇒ MalformedText)
+    ∷ (not (keysAllowed (isPublic (h .flags)) (h .at) (h .publiclen) l1len l2len) ⇒ KeyLength)
     ∷ []
+
+-- what a writer promises: it answers what the reader would answer on the bytes, then 13; the output is the envelope and what stood
+-- behind it, or as it was
+pub record Wrote (h : Head) (g : Given) (before : List ℕ) (r : Written) (after : List ℕ) : Type 0 where
+  pub answer : r ≡ writtenOf (firstOf (envelopeChecks (envelopeBytes h g))) (endAt (givenLengths g)) (length before)
+  pub output : after ≡ outputOf r (envelopeBytes h g) before

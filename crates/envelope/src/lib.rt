@@ -1,24 +1,31 @@
 // Document 01, "Group Key Envelope" (MS-GKDI 2.2.4): envelopes read and written.
 ghost use mathlib.Core.Path.{_≡_};
-ghost use Prim.Native.Nat.{_+_};
+ghost use mathlib.Core.List.{_++_};
+ghost use Prim.Native.Nat.{_+_, _≤_, min};
 ghost use lib.ListN.{length};
 ghost use Rattle.refusal.specs.Chain.{firstOf};
-ghost use Rattle.wire.specs.Parts.{startOf, partOf};
+ghost use Rattle.wire.specs.Parts.{startOf, partOf, onto, joined};
 ghost use mathlib.Core.Bool.{not};
 ghost use Rattle.text.specs.Text.{isText};
 ghost use Rattle.reach.specs.KeyRule.{keysAllowed};
 ghost use Rattle.envelope.specs.Layout.{headOf, isPublic, lengthsOf, endAt, bodiesOf, bodySpan};
 ghost use Rattle.envelope.specs.Reading.{layoutChecks, envelopeOf, spanOf, envelopeSpan, envelopeBody};
+ghost use Rattle.envelope.specs.Writing.{given, givenLengths, headPieces, envelopeBytes, givenChecks, Wrote};
 use gkid::Gkid;
 use gkid::L0;
 use gkid::L1;
 use gkid::L2;
 use records::LIMIT;
+use records::Written;
+use records::fitted;
+use records::grown;
 use refusal::Outcome;
 use refusal::Refusal;
 use rootid::RootId;
 use wire::Span;
+use wire::copy_into;
 use wire::le32_at;
+use wire::put_le32s;
 
 // The head's values. The private and the public key length have no body.
 pub struct Head {
@@ -278,4 +285,165 @@ pub fn span_of(read: EnvelopeRead, which: EnvelopePart) -> Span
         }
         EnvelopeRead::Refused(_) => Span { at: 0, len: 0 },
     }
+}
+
+// Writes an envelope: what the reader would say of the bytes, then 13.
+pub fn write(
+    out: &mut [u8],
+    head: Head,
+    kdf: &[u8],
+    kdfparams: &[u8],
+    agreement: &[u8],
+    agreeparams: &[u8],
+    domain: &[u8],
+    forest: &[u8],
+    l1key: &[u8],
+    l2key: &[u8],
+) -> Written
+    ensures { λ r. ⌜ Wrote head (given (now (kdf .entry)) (now (kdfparams .entry)) (now (agreement .entry)) (now (agreeparams .entry)) (now (domain .entry)) (now (forest .entry)) (now (l1key .entry)) (now (l2key .entry))) (now (out .entry)) r (now (out .exit)) ⌝ }
+{
+    let first = capped(
+        80,
+        kdf.len(),
+        kdfparams.len(),
+        agreement.len(),
+        agreeparams.len(),
+    );
+    let len = capped(first, domain.len(), forest.len(), l1key.len(), l2key.len());
+    let checks = judge_given(
+        len,
+        head,
+        kdf,
+        agreement,
+        domain,
+        forest,
+        l1key.len(),
+        l2key.len(),
+    );
+    let answer = fitted(checks, len, out.len());
+    if let Written::Length(_) = answer {
+        put(
+            out,
+            head,
+            kdf,
+            kdfparams,
+            agreement,
+            agreeparams,
+            domain,
+            forest,
+            l1key,
+            l2key,
+        );
+    }
+    answer
+}
+
+// A length and four more, or 65,536 where the sum is over the limit.
+fn capped(len: usize, a: usize, b: usize, c: usize, d: usize) -> usize
+    ensures { λ r. ⌜ r ≡ min (len + a + b + c + d) 65536 ⌝ }
+{
+    grown(grown(grown(grown(len, a), b), c), d)
+}
+
+// The checks that can apply to what the writer is given.
+fn judge_given(
+    len: usize,
+    head: Head,
+    kdf: &[u8],
+    agreement: &[u8],
+    domain: &[u8],
+    forest: &[u8],
+    l1: usize,
+    l2: usize,
+) -> Outcome
+    ensures { λ r. ⌜ r ≡ firstOf (givenChecks len head (now (kdf .entry)) (now (agreement .entry)) (now (domain .entry)) (now (forest .entry)) l1 l2) ⌝ }
+{
+    let at = head.at;
+    Outcome::Accepted
+        .refuse_if(LIMIT < len, Refusal::TooLong)
+        .refuse_if(at.index_above_31(), Refusal::IndexAbove31)
+        .refuse_if(!text::is_text(kdf), Refusal::MalformedText)
+        .refuse_if(!text::is_text(agreement), Refusal::MalformedText)
+        .refuse_if(!text::is_text(domain), Refusal::MalformedText)
+        .refuse_if(!text::is_text(forest), Refusal::MalformedText)
+        .refuse_if(breaks_key_rule(head, l1, l2), Refusal::KeyLength)
+}
+
+// The head, and each body into its own part of the output.
+fn put(
+    out: &mut [u8],
+    head: Head,
+    kdf: &[u8],
+    kdfparams: &[u8],
+    agreement: &[u8],
+    agreeparams: &[u8],
+    domain: &[u8],
+    forest: &[u8],
+    l1key: &[u8],
+    l2key: &[u8],
+)
+    requires { ⌜ endAt (givenLengths (given (now kdf) (now kdfparams) (now agreement) (now agreeparams) (now domain) (now forest) (now l1key) (now l2key))) ≤ 65535 ⌝ }
+    requires { ⌜ endAt (givenLengths (given (now kdf) (now kdfparams) (now agreement) (now agreeparams) (now domain) (now forest) (now l1key) (now l2key))) ≤ length (now out) ⌝ }
+    ensures { λ _. ⌜ now (out .exit) ≡ onto (envelopeBytes head (given (now (kdf .entry)) (now (kdfparams .entry)) (now (agreement .entry)) (now (agreeparams .entry)) (now (domain .entry)) (now (forest .entry)) (now (l1key .entry)) (now (l2key .entry)))) (now (out .entry)) ⌝ }
+{
+    let first = 80 + kdf.len() + kdfparams.len() + agreement.len() + agreeparams.len();
+    let end = first + domain.len() + forest.len() + l1key.len() + l2key.len();
+    let lengths = Lengths {
+        kdf: kdf.len() as u32,
+        kdfparams: kdfparams.len() as u32,
+        agreement: agreement.len() as u32,
+        agreeparams: agreeparams.len() as u32,
+        l1key: l1key.len() as u32,
+        l2key: l2key.len() as u32,
+        domain: domain.len() as u32,
+        forest: forest.len() as u32,
+    };
+    put_head(&mut out[0..80], head, lengths);
+    put_bodies(&mut out[80..first], kdf, kdfparams, agreement, agreeparams);
+    put_bodies(&mut out[first..end], domain, forest, l1key, l2key);
+}
+
+fn put_head(dst: &mut [u8], head: Head, n: Lengths)
+    requires { ⌜ 80 ≤ length (now dst) ⌝ }
+    ensures { λ _. ⌜ now (dst .exit) ≡ onto (joined (headPieces head n)) (now (dst .entry)) ⌝ }
+{
+    let at = head.at;
+    let root = head.root;
+    let front = [
+        head.version,
+        0x4B53444B,
+        head.flags,
+        at.l0.0,
+        at.l1.0,
+        at.l2.0,
+    ];
+    let lengths = [
+        n.kdf,
+        n.kdfparams,
+        n.agreement,
+        n.agreeparams,
+        head.privatelen,
+        head.publiclen,
+        n.l1key,
+        n.l2key,
+        n.domain,
+        n.forest,
+    ];
+    put_le32s(&mut dst[0..24], &front);
+    root.put(&mut dst[24..40]);
+    put_le32s(&mut dst[40..80], &lengths);
+}
+
+// Four bodies, one after the other, each into its own part.
+fn put_bodies(dst: &mut [u8], a: &[u8], b: &[u8], c: &[u8], d: &[u8])
+    requires { ⌜ length (now a) + length (now b) + length (now c) + length (now d) ≤ length (now dst) ⌝ }
+    ensures { λ _. ⌜ now (dst .exit) ≡ onto (((now (a .entry) ++ now (b .entry)) ++ now (c .entry)) ++ now (d .entry)) (now (dst .entry)) ⌝ }
+{
+    let second = a.len() + b.len();
+    let third = second + c.len();
+    let end = third + d.len();
+    copy_into(&mut dst[0..a.len()], a);
+    copy_into(&mut dst[a.len()..second], b);
+    copy_into(&mut dst[second..third], c);
+    copy_into(&mut dst[third..end], d);
 }

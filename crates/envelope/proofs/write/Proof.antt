@@ -1,0 +1,72 @@
+-- `write`: the answer by the capped length is the definition's; where a length is answered, the envelope was put.
+use Prim.Native.Nat.{_+_, min}
+use native.Mathlib.Omega.{arith}
+use mathlib.Core.Path.{_≡_, sym, ap, _∙_}
+use lib.ListN.{length}
+use borrow.Author.Needs.{needs}
+use Rattle.refusal.specs.Chain.{firstOf}
+use Rattle.records.specs.Writing.{writtenOf, outputOf}
+use Rattle.envelope.specs.Layout.{endAt}
+use Rattle.envelope.specs.Reading.{envelopeChecks}
+use Rattle.envelope.specs.Writing.{given, givenLengths, envelopeBytes}
+use Rattle.envelope.proofs.Writing.{Fit, answer-is, written-fits}
+use Rattle.envelope.proofs.write.Statement.{statement}
+use Rattle.envelope.proofs.write.Tie as tie
+
+fits : (c : tie.Start) → Fit (c .args .head)
+fits c =
+    let own = c .good .1 .0 in
+    record {
+      version = omega (arith, own);
+      flags = omega (arith, own);
+      l0 = omega (arith, own);
+      l1 = omega (arith, own);
+      l2 = omega (arith, own);
+      high = omega (arith, own);
+      low = omega (arith, own);
+      privatelen = omega (arith, own);
+      publiclen = omega (arith, own);
+    }
+
+answered : (c : tie.After-fitted) → (let a = c .before .before .before .before .before .before .before .before .before .before .before .before .before .args in
+    let g = given (a .kdf .now) (a .kdfparams .now) (a .agreement .now) (a .agreeparams .now) (a .domain .now) (a .forest .now) (a .l1key .now) (a .l2key .now) in
+    c .fitted .result ≡ writtenOf (firstOf (envelopeChecks (envelopeBytes (a .head) g))) (endAt (givenLengths g)) (length (a .out .now)))
+answered c =
+    let a = c .before .before .before .before .before .before .before .before .before .before .before .before .before .args in
+    let g = given (a .kdf .now) (a .kdfparams .now) (a .agreement .now) (a .agreeparams .now) (a .domain .now) (a .forest .now) (a .l1key .now) (a .l2key .now) in
+    let len = c .before .before .capped2 .result in
+    let capped : len ≡ min (endAt (givenLengths g)) 65536 = omega arith in
+    c .fitted .ensures
+    ∙ ap (λ o. writtenOf o len (length (a .out .now))) (c .before .judge-given .ensures)
+    ∙ answer-is (a .head) g (length (a .out .now)) len (fits (c .before .before .before .before .before .before .before .before .before .before .before .before .before)) capped
+
+put-requires : tie.Need-put-requires
+put-requires c κs =
+    let f = c .before .before .before in
+    let a = f .before .before .before .before .before .before .before .before .before .before .before .before .before .args in
+    written-fits (a .head) (given (a .kdf .now) (a .kdfparams .now) (a .agreement .now) (a .agreeparams .now) (a .domain .now) (a .forest .now) (a .l1key .now) (a .l2key .now)) _ _ (sym (answered f) ∙ c .before .enum-told .given .1)
+
+returns : tie.Need-returns
+unfolding outputOf
+returns c =
+    let p = c .before .before in
+    record { answer = answered (p .before .before .before .before); output = rw (p .before .before .enum-told .given .1) (p .put .ensures) }
+
+returns-2 : tie.Need-returns-2
+unfolding outputOf
+returns-2 c = record { answer = answered (c .before .before); output = rw (c .enum-told2 .given .1) }
+
+pub write-spec : {M : Type 1} → statement M
+write-spec =
+    tie.close
+    (tie.spec
+    (λ c κs. search needs)
+    (λ c κs. search needs)
+    (λ c κs. search needs)
+    (λ c κs. search needs)
+    (λ c. search needs)
+    put-requires
+    (λ c. search needs)
+    (λ c. search needs)
+    returns
+    returns-2)
