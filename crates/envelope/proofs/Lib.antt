@@ -1,2 +1,4 @@
 pub mod Reading
 pub mod Writing
+pub mod ExactlyWhen
+pub mod ReadBack

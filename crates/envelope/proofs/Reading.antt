@@ -1,6 +1,5 @@
 -- Laws of the reader's answer.
 use Prim.Native.Nat.{ℕ, _≤_, _<_}
-use native.Mathlib.Omega.{arith}
 use mathlib.Core.List.{List}
 use mathlib.Core.Path.{_≡_, refl, sym, ap, _∙_}
 use lib.ListN.{length}
@@ -15,7 +14,6 @@ use Rattle.wire.specs.Parts.{leAt}
 use Rattle.envelope.specs.declared.Head.{Head}
 use Rattle.envelope.specs.declared.Lengths.{Lengths}
 use Rattle.envelope.specs.declared.Bodies.{Bodies}
-use Rattle.envelope.specs.declared.Envelope.{Envelope}
 use Rattle.envelope.specs.declared.EnvelopeRead.the-variants.{Accepted, Refused}
 use Rattle.envelope.specs.Layout.{headOf, lengthsOf, bodiesOf}
 use Rattle.envelope.specs.Reading.{layoutChecks, envelopeChecks, answer, shown, envelopeOf, envelopeNumber}
@@ -37,3 +35,16 @@ unfolding envelopeOf envelopeChecks
 envelope-judged s l f is-marked is-head is-lengths is-bodies judged =
     ap (λ o. answer o (shown s)) (first-next _ _ _ (le-ltb 65535 (length s) l) ∙ first-next _ _ _ (le-ltb (length s) 80 f))
     ∙ simp (sym is-marked, sym is-head, sym is-lengths, sym judged, sym is-bodies)
+
+-- An accepted envelope: no check applies, and it shows its head and where its bodies stand.
+pub accepted-checks : (s : List ℕ) → envelopeNumber (envelopeOf s) ≡ 0 → firstOf (envelopeChecks s) ≡ outcome.Accepted
+unfolding envelopeOf envelopeNumber answer
+accepted-checks s = told (firstOf (envelopeChecks s))
+  where
+    told : (o : Outcome) → envelopeNumber (answer o (shown s)) ≡ 0 → o ≡ outcome.Accepted
+    told outcome.Accepted z = refl
+    told (outcome.Refused r) z = absurd (number-not-zero r z)
+
+pub accepted-shown : (s : List ℕ) → envelopeNumber (envelopeOf s) ≡ 0 → envelopeOf s ≡ Accepted (shown s)
+unfolding envelopeOf answer
+accepted-shown s z = ap (λ o. answer o (shown s)) (accepted-checks s z)

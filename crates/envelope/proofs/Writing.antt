@@ -2,8 +2,7 @@
 use Prim.Native.Nat.{ℕ, _+_, _^_, _≤_, _<_, min}
 use native.Mathlib.Omega.{arith}
 use mathlib.Core.List.{List, [], _∷_, _++_, append-assoc, append-nil}
-use mathlib.Core.Path.{_≡_, refl, sym, ap, _∙_}
-use lib.Dec.{eqb}
+use mathlib.Core.Path.{_≡_, refl, ap, _∙_}
 use lib.ListN.{length, take, length-append}
 use borrow.Author.Tests.{ltb-false, lt-ltb, le-ltb, eq-eqb}
 use mathlib.Core.Bool.{not}
@@ -14,7 +13,7 @@ use Rattle.records.specs.declared.Written.the-variants.{Length}
 use Rattle.records.specs.Writing.{writtenOf}
 use Rattle.records.proofs.Laws.{over-capped, written-capped, written-accepted}
 use Rattle.wire.specs.Numbers.{leOf, leBytes, beBytes}
-use Rattle.wire.specs.Parts.{leAt, partOf, joined, le32Bytes}
+use Rattle.wire.specs.Parts.{leAt, joined, le32Bytes}
 use Rattle.wire.proofs.Numbers.{le-piece}
 use Rattle.wire.proofs.Parts.{piece-part, joined-append}
 use Rattle.wire.proofs.Writing.{length-joined}

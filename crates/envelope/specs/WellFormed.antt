@@ -9,7 +9,6 @@ use Rattle.wire.specs.Numbers.{leOf}
 use Rattle.wire.specs.Parts.{leAt}
 use Rattle.gkid.specs.Identifier.{InGroup}
 use Rattle.text.specs.WellFormed as text
-use Rattle.reach.specs.KeyRule.{keysAllowed}
 use Rattle.envelope.specs.declared.EnvelopePart.the-variants.{Kdf, Agreement, Domain, Forest}
 use Rattle.envelope.specs.Layout.{mark, headOf, isPublic, lengthsOf, endAt}
 use Rattle.envelope.specs.Reading.{bodyAt}

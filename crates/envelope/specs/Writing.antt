@@ -1,5 +1,5 @@
 -- Document 01, "Group Key Envelope": what the writer makes and which checks can apply to it.
-use Prim.Native.Nat.{ℕ, _+_}
+use Prim.Native.Nat.{ℕ}
 use mathlib.Core.Bool.{not}
 use mathlib.Core.Path.{_≡_}
 use mathlib.Core.List.{List, [], _∷_, _++_}

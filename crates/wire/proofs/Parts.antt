@@ -5,6 +5,7 @@ use mathlib.Core.Path.{_≡_, refl, sym, ap, _∙_}
 use mathlib.Core.List.{List, [], _∷_, _++_, append-assoc}
 use lib.ListN.{length, getD, take, drop, length-append, length-drop}
 use lib.Seq.{length-take-le, take-at, drop-at, take-add, drop-drop, take-length, take-append-le, drop-append-le, drop-append-seam}
+use mathlib.Core.Bool.{cond}
 use lib.Dec.{leb}
 use borrow.Author.Tests.{le-leb, lt-leb, leb-true, leb-false}
 use Rattle.refusal.proofs.Cases.{by-cases}
@@ -30,6 +31,11 @@ start-in s at len h = rw (le-leb (at + len) (length s) h)
 pub start-out : (s : List ℕ) (at len : ℕ) → length s < at + len → startOf s at len ≡ 0
 unfolding startOf
 start-out s at len h = rw (lt-leb (at + len) (length s) h)
+
+-- A part of no bytes is empty, wherever it lies.
+pub part-empty : (s : List ℕ) (at : ℕ) → partOf s at 0 ≡ []
+unfolding partOf
+part-empty s at = by-cases (λ t. cond t (take 0 (drop at s)) [] ≡ []) (leb (at + 0) (length s)) (λ _. refl) (λ _. refl)
 
 -- A part that lies inside has its length.
 pub length-part : (s : List ℕ) (at len : ℕ) → at + len ≤ length s → length (partOf s at len) ≡ len
@@ -107,4 +113,3 @@ pub joined-append : (pieces others : List (List ℕ)) → joined (pieces ++ othe
 unfolding joined
 joined-append [] others = refl
 joined-append (piece ∷ pieces) others = ap (λ t. piece ++ t) (joined-append pieces others) ∙ sym (append-assoc piece _ _)
-

@@ -1,6 +1,6 @@
 -- `judge`: one check after the other, each with the word of its rule.
 use mathlib.Core.Bool.{not}
-use mathlib.Core.Path.{_≡_, refl, ap, _∙_}
+use mathlib.Core.Path.{_≡_, ap, _∙_}
 use lib.Dec.{eqb}
 use lib.ListN.{length}
 use Rattle.refusal.proofs.Chains.{run, run-first, refuse-is}

@@ -1,6 +1,6 @@
 -- `judge_given`: one check after the other.
 use mathlib.Core.Bool.{not}
-use mathlib.Core.Path.{refl, ap, _∙_}
+use mathlib.Core.Path.{ap, _∙_}
 use Rattle.refusal.proofs.Chains.{run, run-first, refuse-is}
 use Rattle.envelope.specs.Writing.{givenChecks}
 use borrow.Author.Needs.{needs}

@@ -2,7 +2,7 @@
 use Prim.Native.Nat.{_+_}
 use native.Mathlib.Omega.{arith}
 use mathlib.Core.List.{[], _++_}
-use mathlib.Core.Path.{refl, sym, _∙_}
+use mathlib.Core.Path.{refl, sym}
 use lib.ListN.{length, length-append}
 use Rattle.wire.proofs.Writing.{lent, onto-none}
 use borrow.Author.Needs.{needs}

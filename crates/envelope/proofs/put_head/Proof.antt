@@ -2,7 +2,7 @@
 use native.Mathlib.Omega.{arith}
 use mathlib.Core.List.{[], _++_}
 use mathlib.Core.Path.{refl, sym, ap, _∙_}
-use lib.ListN.{length, length-append}
+use lib.ListN.{length-append}
 use Rattle.wire.specs.Parts.{onto, le32Bytes}
 use Rattle.wire.proofs.Writing.{lent, onto-none, length-le32Bytes}
 use Rattle.rootid.specs.Root.{rootBytes}

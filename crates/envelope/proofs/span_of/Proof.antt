@@ -1,5 +1,4 @@
 -- `span_of`: the answer is told; a refusal has no place.
-use mathlib.Core.Path.{_∙_, sym}
 use Rattle.envelope.specs.Reading.{spanOf}
 use borrow.Author.Needs.{needs}
 use Rattle.envelope.proofs.span_of.Statement.{statement}

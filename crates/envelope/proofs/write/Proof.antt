@@ -1,5 +1,5 @@
 -- `write`: the answer by the capped length is the definition's; where a length is answered, the envelope was put.
-use Prim.Native.Nat.{_+_, min}
+use Prim.Native.Nat.{min}
 use native.Mathlib.Omega.{arith}
 use mathlib.Core.Path.{_≡_, sym, ap, _∙_}
 use lib.ListN.{length}

@@ -1,0 +1,125 @@
+-- What the writer accepted reads back as given; writing what was read from an accepted envelope gives the same bytes; and an absent
+-- key is an empty part.
+use Prim.Native.Nat.{ℕ, _+_, _≤_}
+use native.Mathlib.Omega.{arith}
+use mathlib.Core.List.{List, [], _∷_}
+use mathlib.Core.Path.{_≡_, refl, sym, ap, _∙_}
+use lib.ListN.{length}
+use borrow.Author.Tests.{ltb-false}
+use Rattle.refusal.specs.declared.Outcome.{Outcome}
+use Rattle.refusal.specs.declared.Outcome.the-variants as outcome
+use Rattle.refusal.specs.Chain.{firstOf}
+use Rattle.refusal.proofs.Chains.{accepted-pass}
+use Rattle.wire.specs.Numbers.{leOf, leBytes}
+use Rattle.wire.specs.Parts.{leAt, partOf, joined}
+use Rattle.wire.proofs.Numbers.{Bytes, le-part-back}
+use Rattle.wire.proofs.Parts.{part-empty, part-whole, length-part, total, cut-joined}
+use Rattle.rootid.proofs.Roots.{root-bytes}
+use Rattle.envelope.specs.declared.Head.{Head}
+use Rattle.envelope.specs.declared.EnvelopePart.{EnvelopePart}
+use Rattle.envelope.specs.declared.EnvelopePart.the-variants.{Kdf, KdfParameters, Agreement, AgreementParameters, Domain, Forest, L1Key, L2Key}
+use Rattle.envelope.specs.declared.EnvelopeRead.the-variants.{Accepted}
+use Rattle.envelope.specs.Layout.{mark, headOf, lengthsOf, endAt, bodiesOf, bodySpan}
+use Rattle.envelope.specs.Reading.{envelopeChecks, answer, shown, envelopeOf, envelopeNumber, spanOf, bodyAt, envelopeBody}
+use Rattle.envelope.specs.WellFormed.{WellFormed}
+use Rattle.envelope.specs.Writing.{Given, givenLengths, envelopeBytes}
+use Rattle.envelope.proofs.Reading.{accepted-shown}
+use Rattle.envelope.proofs.ExactlyWhen.{accepted-well-formed}
+use Rattle.envelope.proofs.Writing.{Fit, bodyGiven, length-bytes, is-head, are-lengths, body-is}
+
+-- the head's values, and each body byte for byte
+pub record ReadsBack (h : Head) (g : Given) : Type 0 where
+  pub values : envelopeOf (envelopeBytes h g) ≡ Accepted (record { head = h; bodies = bodiesOf (givenLengths g) })
+  pub bodies : (which : EnvelopePart) → envelopeBody (envelopeBytes h g) which ≡ bodyGiven g which
+
+pub reads-back : (h : Head) (g : Given) → Fit h → firstOf (envelopeChecks (envelopeBytes h g)) ≡ outcome.Accepted → ReadsBack h g
+unfolding envelopeChecks envelopeOf answer spanOf
+reads-back h g fit accepted =
+    let small : endAt (givenLengths g) ≤ 65535 = rw (length-bytes h g) at (ltb-false 65535 (length (envelopeBytes h g)) (accepted-pass _ accepted .0)) in
+    let read : envelopeOf (envelopeBytes h g) ≡ Accepted (record { head = h; bodies = bodiesOf (givenLengths g) }) =
+    ap (λ o. answer o (shown (envelopeBytes h g))) accepted ∙ rw (is-head h g fit small, are-lengths h g fit small)
+    in
+    record { values = read; bodies = λ which. rw read (body-is h g which) }
+
+-- A body of an accepted envelope stands where the lengths place it, and has its length.
+body-stands : (s : List ℕ) → envelopeNumber (envelopeOf s) ≡ 0 → (which : EnvelopePart) → envelopeBody s which ≡ bodyAt s (lengthsOf s) which
+unfolding spanOf
+body-stands s z which = rw (accepted-shown s z)
+
+body-long : (s : List ℕ) → WellFormed s → (which : EnvelopePart) → length (bodyAt s (lengthsOf s) which) ≡ bodySpan (bodiesOf (lengthsOf s)) which .len
+unfolding bodySpan bodiesOf
+body-long s w Kdf = length-part s _ _ (omega (arith, w .lengths))
+body-long s w KdfParameters = length-part s _ _ (omega (arith, w .lengths))
+body-long s w Agreement = length-part s _ _ (omega (arith, w .lengths))
+body-long s w AgreementParameters = length-part s _ _ (omega (arith, w .lengths))
+body-long s w Domain = length-part s _ _ (omega (arith, w .lengths))
+body-long s w Forest = length-part s _ _ (omega (arith, w .lengths))
+body-long s w L1Key = length-part s _ _ (omega (arith, w .lengths))
+body-long s w L2Key = length-part s _ _ (omega (arith, w .lengths))
+
+-- the bodies that were read
+abbrev pub bodiesRead : List ℕ → Given
+bodiesRead s =
+    record {
+      kdf = envelopeBody s Kdf;
+      kdfparams = envelopeBody s KdfParameters;
+      agreement = envelopeBody s Agreement;
+      agreeparams = envelopeBody s AgreementParameters;
+      domain = envelopeBody s Domain;
+      forest = envelopeBody s Forest;
+      l1key = envelopeBody s L1Key;
+      l2key = envelopeBody s L2Key;
+    }
+
+-- Writing what was read from an accepted envelope gives the same bytes.
+pub rewritten : (s : List ℕ) → Bytes s → envelopeNumber (envelopeOf s) ≡ 0 → envelopeBytes (headOf s) (bodiesRead s) ≡ s
+unfolding envelopeBytes headOf lengthsOf bodySpan bodiesOf leBytes leOf
+rewritten s b z =
+    let w = accepted-well-formed s z in
+    let n = lengthsOf s in
+    let number : (at : ℕ) → at + 4 ≤ 80 → leBytes 4 (leAt 4 s at) ≡ partOf s at 4 = λ at h. le-part-back 4 s at b (omega (arith, w .fixed)) in
+    let size : (which : EnvelopePart) → length (envelopeBody s which) ≡ bodySpan (bodiesOf n) which .len = λ which. ap length (body-stands s z which) ∙ body-long s w which in
+    let stored : (which : EnvelopePart) (at : ℕ) → at + 4 ≤ 80 → bodySpan (bodiesOf n) which .len ≡ leAt 4 s at → leBytes 4 (length (envelopeBody s which)) ≡ partOf s at 4 =
+    λ which at h e. ap (leBytes 4) (size which ∙ e) ∙ number at h
+    in
+    let marked : mark ≡ partOf s 4 4 = ap (leBytes 4) (sym (w .marked)) ∙ number 4 (omega arith) in
+    let lengths : List ℕ = 4 ∷ 4 ∷ 4 ∷ 4 ∷ 4 ∷ 4 ∷ 16 ∷ 4 ∷ 4 ∷ 4 ∷ 4 ∷ 4 ∷ 4 ∷ 4 ∷ 4 ∷ 4 ∷ 4 ∷ n .kdf ∷ n .kdfparams ∷ n .agreement ∷ n .agreeparams ∷ n .domain ∷ n .forest ∷ n .l1key ∷ n .l2key ∷ [] in
+    let whole : total lengths ≡ length s = omega (arith, w .lengths) in
+    (λ i. joined
+    (number 0 (omega arith) i
+    ∷ marked i
+    ∷ number 8 (omega arith) i
+    ∷ number 12 (omega arith) i
+    ∷ number 16 (omega arith) i
+    ∷ number 20 (omega arith) i
+    ∷ root-bytes s 24 b (omega (arith, w .fixed)) i
+    ∷ stored Kdf 40 (omega arith) refl i
+    ∷ stored KdfParameters 44 (omega arith) refl i
+    ∷ stored Agreement 48 (omega arith) refl i
+    ∷ stored AgreementParameters 52 (omega arith) refl i
+    ∷ number 56 (omega arith) i
+    ∷ number 60 (omega arith) i
+    ∷ stored L1Key 64 (omega arith) refl i
+    ∷ stored L2Key 68 (omega arith) refl i
+    ∷ stored Domain 72 (omega arith) refl i
+    ∷ stored Forest 76 (omega arith) refl i
+    ∷ body-stands s z Kdf i
+    ∷ body-stands s z KdfParameters i
+    ∷ body-stands s z Agreement i
+    ∷ body-stands s z AgreementParameters i
+    ∷ body-stands s z Domain i
+    ∷ body-stands s z Forest i
+    ∷ body-stands s z L1Key i
+    ∷ body-stands s z L2Key i
+    ∷ []))
+    ∙ cut-joined s 0 lengths (omega arith) ∙ ap (partOf s 0) whole ∙ part-whole s
+
+-- Absent means absent: of an envelope with no L1 key the part handed out for it is empty, and so is the L2 key's of one with no L2 key.
+-- The part is a function of these bytes alone: there is no state to fall back on.
+pub absent : (s : List ℕ) (which : EnvelopePart) → bodySpan (bodiesOf (lengthsOf s)) which .len ≡ 0 → envelopeBody s which ≡ []
+unfolding envelopeOf answer spanOf
+absent s which none = told (firstOf (envelopeChecks s))
+  where
+    told : (o : Outcome) → partOf s (spanOf (answer o (shown s)) which .at) (spanOf (answer o (shown s)) which .len) ≡ []
+    told outcome.Accepted = ap (partOf s (bodySpan (bodiesOf (lengthsOf s)) which .at)) none ∙ part-empty s _
+    told (outcome.Refused r) = part-empty s 0
