@@ -1,0 +1,135 @@
+// Document 01, "Reach, and the two envelopes": the reach of an envelope, and which of two envelopes serves an identifier.
+ghost use mathlib.Core.Path.{_≡_};
+ghost use Prim.Native.Nat.{_+_};
+ghost use Rattle.envelope.specs.Reading.{envelopeOf};
+ghost use Rattle.serving.specs.Reach.{formOf, envelopeReach};
+ghost use Rattle.serving.specs.Choice.{keyFor, servedBy, choiceOf, chosenPart, chosenBlock, chosenStart};
+use envelope::Envelope;
+use envelope::EnvelopeRead;
+use gkid::Gkid;
+use reach::Form;
+use reach::Reach;
+use refusal::Outcome;
+use rootid::RootId;
+use wire::Span;
+
+// A seed envelope's two keys.
+pub enum SeedKey {
+    L1,
+    L2,
+}
+
+// Whether an envelope serves an identifier: by which key, which stands where.
+pub enum Served {
+    By(SeedKey, Span),
+    No,
+}
+
+// Which of two envelopes serves, by which key, which stands where in it.
+pub enum Choice {
+    Cached(SeedKey, Span),
+    Fetched(SeedKey, Span),
+    Neither,
+}
+
+// The form that an envelope's keys make.
+pub fn form_of(envelope: Envelope) -> Form
+    ensures { λ r. ⌜ r ≡ formOf envelope ⌝ }
+{
+    let bodies = envelope.bodies;
+    let head = envelope.head;
+    if (bodies.l1key.len == 0) & (bodies.l2key.len == 0) {
+        return Form::Keyless;
+    }
+    if envelope::is_public(head.flags) {
+        return Form::Public;
+    }
+    if bodies.l2key.len == 0 {
+        return Form::L1Only;
+    }
+    if bodies.l1key.len == 0 {
+        return Form::L2Only;
+    }
+    Form::Both
+}
+
+// The reach of an envelope: its refusal and an empty map, or what its keys reach.
+pub fn envelope_reach(s: &[u8]) -> Reach
+    ensures { λ r. ⌜ r ≡ envelopeReach (now (s .entry)) ⌝ }
+{
+    match envelope::read(s) {
+        EnvelopeRead::Accepted(envelope) => {
+            let head = envelope.head;
+            let at = head.at;
+            Reach {
+                outcome: Outcome::Accepted,
+                rows: reach::map(form_of(envelope).keys(), at),
+            }
+        }
+        EnvelopeRead::Refused(refusal) => Reach {
+            outcome: Outcome::Refused(refusal),
+            rows: [0; 32],
+        },
+    }
+}
+
+// The key of an accepted envelope that reaches the identifier.
+fn key_for(envelope: Envelope, wanted: Gkid) -> Served
+    ensures { λ r. ⌜ r ≡ keyFor envelope wanted ⌝ }
+{
+    let keys = form_of(envelope).keys();
+    let bodies = envelope.bodies;
+    let head = envelope.head;
+    let at = head.at;
+    let l1key = bodies.l1key;
+    let l2key = bodies.l2key;
+    if keys.l2 & reach::l2_reaches(at, wanted) {
+        return Served::By(SeedKey::L2, l2key);
+    }
+    if keys.l1 & reach::l1_reaches(at, wanted) {
+        return Served::By(SeedKey::L1, l1key);
+    }
+    Served::No
+}
+
+// An envelope serves if it is accepted, has that root and L0, and reaches the identifier.
+fn served_by(s: &[u8], root: RootId, wanted: Gkid) -> Served
+    ensures { λ r. ⌜ r ≡ servedBy (envelopeOf (now (s .entry))) root wanted ⌝ }
+{
+    match envelope::read(s) {
+        EnvelopeRead::Accepted(envelope) => {
+            let head = envelope.head;
+            let own = head.root;
+            if own.is(root) {
+                return key_for(envelope, wanted);
+            }
+            Served::No
+        }
+        EnvelopeRead::Refused(_) => Served::No,
+    }
+}
+
+// From the cached one if that serves, else the fetched one, else neither, which is 23.
+pub fn choose(root: RootId, wanted: Gkid, cached: &[u8], fetched: &[u8]) -> Choice
+    ensures { λ r. ⌜ r ≡ choiceOf root wanted (now (cached .entry)) (now (fetched .entry)) ⌝ }
+{
+    match served_by(cached, root, wanted) {
+        Served::By(key, span) => Choice::Cached(key, span),
+        Served::No => match served_by(fetched, root, wanted) {
+            Served::By(key, span) => Choice::Fetched(key, span),
+            Served::No => Choice::Neither,
+        },
+    }
+}
+
+// The key that reaches the identifier, the very part of the lent bytes, or the empty part where neither serves.
+pub fn serving_key<'a>(root: RootId, wanted: Gkid, cached: &'a [u8], fetched: &'a [u8]) -> &'a [u8]
+    ensures bytes { λ r. ⌜ now r ≡ chosenPart (choiceOf root wanted (now (cached .entry)) (now (fetched .entry))) (now (cached .entry)) (now (fetched .entry)) ⌝ }
+    ensures place { λ r. ⌜ (r .ptr .0 ≡ chosenBlock (choiceOf root wanted (now (cached .entry)) (now (fetched .entry))) (cached .entry .ptr .0) (fetched .entry .ptr .0)) × (r .ptr .1 ≡ chosenBlock (choiceOf root wanted (now (cached .entry)) (now (fetched .entry))) (cached .entry .ptr .1) (fetched .entry .ptr .1) + chosenStart (choiceOf root wanted (now (cached .entry)) (now (fetched .entry))) (now (cached .entry)) (now (fetched .entry))) ⌝ }
+{
+    match choose(root, wanted, cached, fetched) {
+        Choice::Cached(_, span) => wire::part(cached, span),
+        Choice::Fetched(_, span) => wire::part(fetched, span),
+        Choice::Neither => &cached[0..0],
+    }
+}
