@@ -9,6 +9,8 @@ use records::LIMIT;
 use refusal::Refusal;
 use wire::le32_at;
 
+pub mod walk;
+
 // The count of an accepted list; or the refusal, with the index of the entry that it is given for (0 where none is told).
 pub enum ListRead {
     Count(u32),
