@@ -1,0 +1,24 @@
+-- `Line::number`: the fewest digits that hold the number, as text.
+use native.Mathlib.Omega.{arith}
+use mathlib.Core.Path.{ap, _∙_}
+use Rattle.envline.specs.Text.{behind, textOf}
+use Rattle.envline.proofs.Decimals.{decimal-is}
+use borrow.Author.Needs.{needs}
+use Rattle.envline.proofs.Line.number.Statement.{statement}
+use Rattle.envline.proofs.Line.number.Tie as tie
+
+returns : tie.Need-returns
+returns c =
+    let d = c .before .before in
+    let a = d .before .before .args in
+    (c .text .ensures .0 ∙ ap (behind (textOf (a .self))) (d .decimal .ensures .1 .1 ∙ decimal-is (d .decimal .result) (a .n) (d .decimal .ensures .1 .0) (omega arith)), c .text .ensures .1)
+
+pub number-spec : {M : Type 1} → statement M
+number-spec =
+    tie.close
+    (tie.spec
+    (λ c κs. search needs)
+    (λ c. search needs)
+    (λ c. search needs)
+    (λ c κs. search needs)
+    returns)
