@@ -1,0 +1,148 @@
+-- Demand 3, waiting loses nothing. One descriptor verdict, one request and one root table are put to the decision twice, the second time
+-- with a clock reading no lower and with rights no lower. Nothing else is assumed.
+use Prim.Native.Nat.{ℕ, _≤_}
+use native.Mathlib.Omega.{arith}
+use mathlib.Core.Bool.{Bool, true, false, true≢false}
+use mathlib.Core.List.{List}
+use mathlib.Core.Path.{_≡_, refl, sym, _∙_}
+use borrow.Author.Tests.{not-true}
+use Rattle.refusal.specs.declared.Refusal.the-variants.{NoRootKey}
+use Rattle.refusal.specs.Number.{outcomeNumber}
+use Rattle.refusal.proofs.Numbers.{number-not-zero}
+use Rattle.gkid.specs.declared.FileTime.{FileTime}
+use Rattle.gkid.specs.declared.Gkid.{Gkid}
+use Rattle.gkid.specs.Identifier.{later}
+use Rattle.gkid.specs.Conversion.{gkidAt}
+use Rattle.gkid.proofs.Order.{later-transitive}
+use Rattle.gkid.proofs.Times.{reading-in-group, reading-monotone}
+use Rattle.reach.specs.declared.Form.{Form}
+use Rattle.reach.specs.Forms.{seedForm}
+use Rattle.reach.specs.Reached.{ofGroup}
+use Rattle.reach.specs.FormReach.{reachNumber}
+use Rattle.reach.proofs.ReachLaws.{both-true, group-is, is-group}
+use Rattle.reach.proofs.SeedLaws.{seed-accepted, seed-bits, seed-total}
+use Rattle.getkey.specs.declared.Rights.{Rights}
+use Rattle.getkey.specs.declared.Rights.the-variants as rights
+use Rattle.request.specs.declared.Root.{Root}
+use Rattle.request.specs.declared.Root.the-variants as root
+use Rattle.request.specs.declared.Request.{Request}
+use Rattle.request.specs.declared.Asked.{Asked}
+use Rattle.request.specs.declared.Asked.the-variants.{Latest, Named}
+use Rattle.roottable.specs.declared.Found.{Found}
+use Rattle.roottable.specs.declared.Found.the-variants as found
+use Rattle.request.specs.Indices.{laterThanNow, names, namedOf, askedOf}
+use Rattle.getkey.specs.Deciding.{rightsTooLow, grantedAt, formFor, withoutRow, withRow, granting, decision, answerNumber, answerAt, answerForm, answerRow, answerCreates}
+use Rattle.getkey.specs.Waiting.{height, NoLower, Accepted, NoWorse, reachedBy, ReachesUpTo}
+use Rattle.request.proofs.Requests.{Asks, latest, named, asks}
+use Rattle.getkey.proofs.Decisions.{passed-decided, accepted-decided}
+use Rattle.getkey.proofs.Granted.{Group, granted-group, granted-later}
+
+-- the same row or none: the same answer but for identifier and form
+with-row : (f : Found) (root : Root) (asked : Asked) (at at′ : Gkid) (form form′ : Form) → later at at′ ≡ false → Accepted (withRow f root asked at form)
+    → NoWorse (withRow f root asked at form) (withRow f root asked at′ form′)
+unfolding withRow withoutRow answerNumber answerRow answerCreates answerAt
+with-row (found.Row k) root asked at at′ form form′ l e = record { accepted = refl; row = refl; create = refl; notEarlier = l }
+with-row found.None root.None Latest at at′ form form′ l e = record { accepted = refl; row = refl; create = refl; notEarlier = l }
+with-row found.None root.None (Named i) at at′ form form′ l e = absurd (number-not-zero NoRootKey e)
+with-row found.None (root.Given id) asked at at′ form form′ l e = absurd (number-not-zero NoRootKey e)
+
+-- what an accepted answer shows
+shows : (f : Found) (root : Root) (asked : Asked) (at : Gkid) (form : Form) → Accepted (withRow f root asked at form)
+    → (answerAt (withRow f root asked at form) ≡ at) × (answerForm (withRow f root asked at form) ≡ form)
+unfolding withRow withoutRow answerNumber answerAt answerForm
+shows (found.Row k) root asked at form e = (refl, refl)
+shows found.None root.None Latest at form e = (refl, refl)
+shows found.None root.None (Named i) at form e = absurd (number-not-zero NoRootKey e)
+shows found.None (root.Given id) asked at form e = absurd (number-not-zero NoRootKey e)
+
+no-lower : (r r′ : Rights) (n : Bool) → NoLower r r′ → rightsTooLow r n ≡ false → rightsTooLow r′ n ≡ false
+unfolding height rightsTooLow
+no-lower rights.None r′ n h e = absurd (true≢false e)
+no-lower rights.Public rights.None n h e = absurd (omega arith)
+no-lower rights.Public rights.Public n h e = e
+no-lower rights.Public rights.Seed n h e = refl
+no-lower rights.Seed rights.None n h e = absurd (omega arith)
+no-lower rights.Seed rights.Public n h e = absurd (omega arith)
+no-lower rights.Seed rights.Seed n h e = refl
+
+-- where an identifier is named, rights that are not too low are seed rights
+seed-only : (r : Rights) (at : Gkid) → rightsTooLow r true ≡ false → formFor r at ≡ seedForm at
+unfolding rightsTooLow formFor
+seed-only rights.None at e = absurd (true≢false e)
+seed-only rights.Public at e = absurd (true≢false e)
+seed-only rights.Seed at e = refl
+
+module _ (verdict : Bool) (q : Request) (table : List ℕ) where
+  -- what is granted at a reading
+  at-reading : FileTime → Gkid
+  at-reading t = grantedAt (askedOf q) (q .root) (gkidAt t)
+
+  module _ (t t′ : FileTime) (h : t .0 ≤ t′ .0) where
+    -- not later than now at the first reading: nor at the second, and no earlier identifier is granted there
+    waited : Asks q → laterThanNow q (gkidAt t) ≡ false → (laterThanNow q (gkidAt t′) ≡ false) × (later (at-reading t) (at-reading t′) ≡ false)
+    unfolding askedOf grantedAt at-reading
+    waited (latest e l) not-later = (l (gkidAt t′), rw e (reading-monotone t t′ h))
+    waited (named e g l) not-later =
+        let up-to = sym (l (gkidAt t)) ∙ not-later in
+        let clock = reading-monotone t t′ h in (
+          l (gkidAt t′) ∙ later-transitive (namedOf q) (gkidAt t) (gkidAt t′) up-to clock,
+          rw e (granted-later (q .root) (namedOf q) (gkidAt t) (gkidAt t′) g (reading-in-group t) (reading-in-group t′) up-to clock),
+        )
+
+    -- "If the first is accepted, so is the second, with the same root row or the same CREATE, and an identifier not earlier."
+    pub asked-again : (r r′ : Rights) → NoLower r r′ → Accepted (decision verdict r q t table) → NoWorse (decision verdict r q t table) (decision verdict r′ q t′ table)
+    unfolding granting at-reading
+    asked-again r r′ higher e =
+        let first = accepted-decided verdict r q t table e in
+        let p = first .checked in
+        let w = waited (asks q (p .ranged) (p .unmixed)) (p .not-later) in
+        let second = passed-decided verdict r′ q t′ table (record { verdict-yes = p .verdict-yes; ranged = p .ranged; unmixed = p .unmixed; not-later = w .0; allowed = no-lower r r′ (names q) higher (p .allowed); table = p .table }) in
+        rw (first .is, second .is) (with-row _ (q .root) (askedOf q) (at-reading t) (at-reading t′) _ _ (w .1) (rw (first .is) at e))
+
+  -- an accepted answer to a request that names an identifier: of its L0 group, not before it, and in the seed form
+  named-answer : (r : Rights) (t : FileTime) → names q ≡ true → Accepted (decision verdict r q t table)
+      → Group (namedOf q) (answerAt (decision verdict r q t table)) × (answerForm (decision verdict r q t table) ≡ seedForm (answerAt (decision verdict r q t table)))
+  unfolding granting askedOf
+  named-answer r t one e =
+      let d = accepted-decided verdict r q t table e in
+      let p = d .checked in
+      let i = namedOf q in
+      let at = grantedAt (Named i) (q .root) (gkidAt t) in
+      let allowed : rightsTooLow r true ≡ false = rw one at (p .allowed) in
+      let s = shows _ (q .root) (Named i) at (formFor r at) (rw (d .is, one) at e) in
+      rw (d .is, one, s .0, s .1, seed-only r at allowed) (of (asks q (p .ranged) (p .unmixed)) (p .not-later), refl)
+    where
+      of : Asks q → laterThanNow q (gkidAt t) ≡ false → Group (namedOf q) (grantedAt (Named (namedOf q)) (q .root) (gkidAt t))
+      of (latest none l) not-later = absurd (true≢false (sym one ∙ none))
+      of (named _ g l) not-later = granted-group (q .root) (namedOf q) (gkidAt t) g (reading-in-group t) (sym (l (gkidAt t)) ∙ not-later)
+
+  -- "Whenever a request that names an identifier is accepted, the granted form reaches exactly the identifiers of that L0 group up to the
+  -- granted one, total 32·L1 + L2 + 1."
+  pub reaches-up-to : (r : Rights) (t : FileTime) → names q ≡ true → Accepted (decision verdict r q t table) → ReachesUpTo (decision verdict r q t table)
+  unfolding reachedBy reachNumber outcomeNumber
+  reaches-up-to r t one e =
+      let a = named-answer r t one e in
+      let at = answerAt (decision verdict r q t table) in
+      let g = a .0 .within in
+      record { accepted = rw (a .1, seed-accepted at g); reached = λ i. rw (a .1) (seed-bits at i g); total = rw (a .1) (seed-total at g) }
+
+  -- "So the named one is reached,
+  pub named-reached : (r : Rights) (t : FileTime) → names q ≡ true → Accepted (decision verdict r q t table) → reachedBy (decision verdict r q t table) (namedOf q) ≡ true
+  named-reached r t one e =
+      let a = named-answer r t one e .0 in
+      let at = answerAt (decision verdict r q t table) in
+      reaches-up-to r t one e .reached (namedOf q) ∙ rw (is-group at (namedOf q) (sym (a .same)) (a .own), a .after)
+
+  -- and what the first form reaches, the second reaches too."
+  pub still-reached : (t t′ : FileTime) → t .0 ≤ t′ .0 → (r r′ : Rights) → NoLower r r′ → names q ≡ true → Accepted (decision verdict r q t table)
+      → (i : Gkid) → reachedBy (decision verdict r q t table) i ≡ true → reachedBy (decision verdict r′ q t′ table) i ≡ true
+  still-reached t t′ h r r′ higher one e i reached =
+      let again = asked-again t t′ h r r′ higher e in
+      let a = named-answer r t one e .0 in
+      let b = named-answer r′ t′ one (again .accepted) .0 in
+      let at = answerAt (decision verdict r q t table) in
+      let at′ = answerAt (decision verdict r′ q t′ table) in
+      let was = both-true (ofGroup at i) _ (sym (reaches-up-to r t one e .reached i) ∙ reached) in
+      let of = group-is at i (was .0) in
+      reaches-up-to r′ t′ one (again .accepted) .reached i
+      ∙ rw (is-group at′ i (of .0 ∙ a .same ∙ sym (b .same)) (of .1), later-transitive i at at′ (not-true _ (was .1)) (again .notEarlier))

@@ -1,0 +1,5 @@
+pub mod Decisions
+pub mod RootRow
+pub mod Granted
+pub mod DemandThree
+pub mod TCases

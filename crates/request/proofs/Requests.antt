@@ -1,0 +1,65 @@
+-- Laws of requests that neither 14 nor 15 refuses: their indices are all -1 or all 0 and above, and then naturals.
+use Prim.Native.Nat.{ℕ, _<_, _^_}
+use native.Mathlib.Omega.{arith}
+use mathlib.Core.Bool.{Bool, true, false, cond, true≢false}
+use mathlib.Core.Path.{_≡_, refl, sym, _∙_}
+use lib.Dec.{eqb, ltb}
+use lib.IntN.{ℤ, pos, negsuc}
+use borrow.Author.Tests.{ltb-true, ltb-false, eq-eqb, ne-eqb}
+use Rattle.refusal.proofs.Cases.{by-cases, or-false}
+use Rattle.gkid.specs.declared.FileTime.{FileTime}
+use Rattle.gkid.specs.declared.Gkid.{Gkid}
+use Rattle.gkid.specs.Identifier.{InGroup, laterThen, later}
+use Rattle.gkid.specs.Conversion.{gkidAt}
+use Rattle.gkid.specs.Start.{startTime}
+use Rattle.gkid.proofs.Order.{ordinal, later-ordinal}
+use Rattle.gkid.proofs.Times.{reading-in-group, reading-ordinal}
+use Rattle.request.specs.declared.Root.{Root}
+use Rattle.request.specs.declared.Request.{Request}
+use Rattle.request.specs.Indices.{below, outside, outOfRange, unset, mixed, laterThenZ, laterThanNow, names, natural, namedOf}
+
+-- Either no index names anything, and the request is never later than now; or all do, and it is later where the named one is.
+pub data Asks (q : Request) : Type 0 where
+  latest : names q ≡ false → ((present : Gkid) → laterThanNow q present ≡ false) → Asks q
+  named : names q ≡ true → InGroup (namedOf q) → ((present : Gkid) → laterThanNow q present ≡ later (namedOf q) present) → Asks q
+
+then-natural : (a b : ℕ) {next other : Bool} → next ≡ other → laterThenZ (pos a) b next ≡ laterThen a b other
+unfolding laterThenZ laterThen
+then-natural a b {next} {other} e =
+    by-cases (λ t. cond t true (cond (ltb a b) false next) ≡ cond (eqb a b) other t) (ltb b a)
+    (λ l. rw (ne-eqb a b (omega (arith, ltb-true))))
+    (λ l. by-cases (λ t. cond t false next ≡ cond (eqb a b) other false) (ltb a b)
+    (λ m. rw (ne-eqb a b (omega (arith, ltb-true))))
+    (λ m. rw (eq-eqb a b (omega (arith, ltb-false))) e))
+
+-- after 14, a negative index is -1
+minus-one : (n : ℕ) → below (negsuc n) ≡ false → eqb n 0 ≡ true
+unfolding below
+minus-one n e = eq-eqb n 0 (omega (arith, ltb-false))
+
+asks-of : (root : Root) (a b c : ℤ) → let q : Request = record { root = root; l0 = a; l1 = b; l2 = c } in
+    below a ≡ false → outside b ≡ false → outside c ≡ false → mixed q ≡ false → Asks q
+unfolding below outside mixed unset names natural namedOf laterThanNow laterThenZ later
+asks-of root (pos a) (pos b) (pos c) h k l e =
+    named refl (ltb-false 31 b k, ltb-false 31 c l) (λ present. then-natural a _ (then-natural b _ (then-natural c _ refl)))
+asks-of root (negsuc a) (negsuc b) (negsuc c) h k l e = latest refl (λ present. refl)
+asks-of root (pos a) (pos b) (negsuc c) h k l e = absurd (true≢false (rw (minus-one c (or-false (below (negsuc c)) _ l .0)) at e))
+asks-of root (pos a) (negsuc b) (pos c) h k l e = absurd (true≢false (rw (minus-one b (or-false (below (negsuc b)) _ k .0)) at e))
+asks-of root (pos a) (negsuc b) (negsuc c) h k l e = absurd (true≢false (rw (minus-one b (or-false (below (negsuc b)) _ k .0)) at e))
+asks-of root (negsuc a) (pos b) (pos c) h k l e = absurd (true≢false (rw (minus-one a h) at e))
+asks-of root (negsuc a) (pos b) (negsuc c) h k l e = absurd (true≢false (rw (minus-one a h) at e))
+asks-of root (negsuc a) (negsuc b) (pos c) h k l e = absurd (true≢false (rw (minus-one a h, minus-one b (or-false (below (negsuc b)) _ k .0)) at e))
+
+pub asks : (q : Request) → outOfRange q ≡ false → mixed q ≡ false → Asks q
+unfolding outOfRange
+asks q h e =
+    let l0 = or-false (below (q .l0)) _ h in
+    let rest = or-false (outside (q .l1)) _ (l0 .1) in
+    asks-of (q .root) (q .l0) (q .l1) (q .l2) (l0 .0) (rest .0) (rest .1) e
+
+-- An identifier up to now starts within 64 bits.
+pub up-to-now : (i : Gkid) (t : FileTime) → t .0 < 2 ^ 64 → InGroup i → later i (gkidAt t) ≡ false → startTime i < 2 ^ 64
+up-to-now i t h g e =
+    let order = ltb-false (ordinal (gkidAt t)) (ordinal i) (sym (later-ordinal i (gkidAt t) g (reading-in-group t)) ∙ e) in
+    let steps = reading-ordinal t in
+    omega arith
