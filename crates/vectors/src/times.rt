@@ -51,15 +51,9 @@ fn gkid(l0: u32, l1: u32, l2: u32) -> Gkid {
     }
 }
 
-fn identifier(i: Gkid) {
-    say::number(i.l0.0 as u64);
-    say::number(i.l1.0 as u64);
-    say::number(i.l2.0 as u64);
-}
-
 fn time(name: &[u8], ticks: u64) {
     say::text(name);
-    identifier(Gkid::at(FileTime(ticks)));
+    say::identifier(Gkid::at(FileTime(ticks)));
     say::end();
 }
 
@@ -75,7 +69,7 @@ fn start(name: &[u8], l0: u32, l1: u32, l2: u32) {
 fn older(name: &[u8], l0: u32, l1: u32, l2: u32) {
     say::text(name);
     match gkid(l0, l1, l2).older() {
-        Older::Is(i) => identifier(i),
+        Older::Is(i) => say::identifier(i),
         Older::None => say::text(b" NONE"),
         Older::Refused(refusal) => say::refused(refusal),
     }
