@@ -7,13 +7,12 @@ use mathlib.Core.Path.{_≡_, refl, ap}
 use lib.Dec.{eqb}
 use lib.ListN.{length}
 use borrow.Author.Tests.{ltb-false, le-ltb, eqb-true, eqb-false, eq-eqb, ne-eqb}
-use Rattle.refusal.proofs.Cases.{by-cases, not-false}
+use Rattle.refusal.proofs.Cases.{by-cases, not-false, both-true}
 use Rattle.refusal.proofs.Chains.{accepted-pass, pass-accepted}
 use Rattle.gkid.specs.declared.Gkid.{Gkid}
 use Rattle.gkid.proofs.Order.{in-group, not-above}
 use Rattle.text.proofs.ExactlyWhen.{text-well-formed, well-formed-text}
 use Rattle.reach.specs.KeyRule.{l1KeyAllowed, l2KeyAllowed, keysAllowed}
-use Rattle.reach.proofs.ReachLaws.{both-true}
 use Rattle.envelope.specs.Reading.{layoutChecks, envelopeChecks, answer, envelopeOf, envelopeNumber}
 use Rattle.envelope.specs.WellFormed.{WellFormed}
 use Rattle.envelope.proofs.Reading.{accepted-checks}

@@ -8,6 +8,7 @@ use mathlib.Core.Path.{_≡_, refl, sym, _∙_}
 use borrow.Author.Tests.{not-true}
 use Rattle.refusal.specs.declared.Refusal.the-variants.{NoRootKey}
 use Rattle.refusal.specs.Number.{outcomeNumber}
+use Rattle.refusal.proofs.Cases.{both-true}
 use Rattle.refusal.proofs.Numbers.{number-not-zero}
 use Rattle.gkid.specs.declared.FileTime.{FileTime}
 use Rattle.gkid.specs.declared.Gkid.{Gkid}
@@ -19,7 +20,7 @@ use Rattle.reach.specs.declared.Form.{Form}
 use Rattle.reach.specs.Forms.{seedForm}
 use Rattle.reach.specs.Reached.{ofGroup}
 use Rattle.reach.specs.FormReach.{reachNumber}
-use Rattle.reach.proofs.ReachLaws.{both-true, group-is, is-group}
+use Rattle.reach.proofs.ReachLaws.{group-is, is-group}
 use Rattle.reach.proofs.SeedLaws.{seed-accepted, seed-bits, seed-total}
 use Rattle.getkey.specs.declared.Rights.{Rights}
 use Rattle.getkey.specs.declared.Rights.the-variants as rights

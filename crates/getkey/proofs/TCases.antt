@@ -1,5 +1,5 @@
--- Document 01, "Bench cases": the T cases on the decision, in one table, with the totals of what the forms reach; and an accepted answer
--- of each kind of request.
+-- Document 01, "Bench cases": the T cases on times, start times and the decision, in one table; and an accepted answer of each kind of
+-- request.
 use Prim.Native.Nat.{ℕ}
 use mathlib.Core.Bool.{Bool, true, false}
 use mathlib.Core.List.{List, [], _∷_, _++_, map}
@@ -13,6 +13,7 @@ use Rattle.gkid.specs.declared.FileTime.{FileTime}
 use Rattle.gkid.specs.declared.Gkid.{Gkid}
 use Rattle.gkid.specs.Identifier.{gkid, indexAbove31}
 use Rattle.gkid.specs.Conversion.{gkidAt}
+use Rattle.gkid.specs.Start.{startOf, startNumber, startShown}
 use Rattle.rootid.specs.declared.RootId.{RootId}
 use Rattle.rootid.specs.Root.{rootAt, rootBytes, sameRoot}
 use Rattle.reach.specs.declared.Form.{Form}
@@ -46,35 +47,51 @@ rows = rootBytes id ++ (beBytes 8 3 ++ beBytes 8 4)
 unfoldable pub asking : Root → ℤ → ℤ → ℤ → Request
 asking root l0 l1 l2 = record { root = root; l0 = l0; l1 = l1; l2 = l2 }
 
--- number, identifier, form, and how many the form reaches there
-pub record Shown : Type 0 where
-  pub number : ℕ
-  pub at : Gkid
-  pub form : Form
-  pub total : ℕ
+-- a reading's identifier; a start time's number, 0 where accepted, with the time; a decision's number, identifier and form, with how many
+-- the form reaches there
+pub data Shown : Type 0 where
+  identifier : Gkid → Shown
+  began : ℕ → ℕ → Shown
+  decided : ℕ → Gkid → Form → ℕ → Shown
+
+pub data Question : Type 0 where
+  time : ℕ → Question
+  start : Gkid → Question
+  ask : Request → Question
 
 unfoldable pub shownOf : Answer → Shown
-shownOf a = record { number = answerNumber a; at = answerAt a; form = answerForm a; total = totalOf (formReach (answerForm a) (answerAt a) .rows) }
-
-abbrev pub granted : ℕ → ℕ → ℕ → Form → ℕ → Shown
-granted l0 l1 l2 form total = record { number = 0; at = gkid l0 l1 l2; form = form; total = total }
-
-abbrev pub refused : ℕ → Shown
-refused number = record { number = number; at = gkid 0 0 0; form = form.Keyless; total = 0 }
+shownOf a = decided (answerNumber a) (answerAt a) (answerForm a) (totalOf (formReach (answerForm a) (answerAt a) .rows))
 
 -- seed rights and a suitable root
-unfoldable pub cases : List (Request × Shown)
+unfoldable pub reply : Question → Shown
+reply (time t) = identifier (gkidAt (record { 0 = t }))
+reply (start i) = began (startNumber (startOf i)) (startShown (startOf i))
+reply (ask q) = shownOf (decision true Seed q clock rows)
+
+abbrev pub refused : ℕ → Shown
+refused number = decided number (gkid 0 0 0) form.Keyless 0
+
+unfoldable pub cases : List (Question × Shown)
 cases =
-    (asking (root.Given id) (pos 5) (pos 0) (pos 0), granted 5 3 7 form.Both 104)
-    ∷ (asking (root.Given id) (pos 4) (pos 2) (pos 2), granted 4 31 31 form.L1Only 1024)
-    ∷ (asking root.None (pos 4) (pos 0) (pos 2), granted 4 0 2 form.L2Only 3)
-    ∷ (asking root.None (pos 5) (pos 3) (pos 8), refused 17)
-    ∷ (asking root.None (pos 0) (negsuc 0) (pos 0), refused 15)
+    (time 0, identifier (gkid 0 0 0))
+    ∷ (time 359999999999, identifier (gkid 0 0 0))
+    ∷ (time 360000000000, identifier (gkid 0 0 1))
+    ∷ (time 11519999999999, identifier (gkid 0 0 31))
+    ∷ (time 368640000000000, identifier (gkid 1 0 0))
+    ∷ (time 18446744073709551615, identifier (gkid 50039 31 27))
+    ∷ (start (gkid 50039 31 27), began 0 18446743800000000000)
+    ∷ (start (gkid 50039 31 28), began 21 0)
+    ∷ (time 1880280000000000, identifier (gkid 5 3 7))
+    ∷ (ask (asking (root.Given id) (pos 5) (pos 0) (pos 0)), decided 0 (gkid 5 3 7) form.Both 104)
+    ∷ (ask (asking (root.Given id) (pos 4) (pos 2) (pos 2)), decided 0 (gkid 4 31 31) form.L1Only 1024)
+    ∷ (ask (asking root.None (pos 4) (pos 0) (pos 2)), decided 0 (gkid 4 0 2) form.L2Only 3)
+    ∷ (ask (asking root.None (pos 5) (pos 3) (pos 8)), refused 17)
+    ∷ (ask (asking root.None (pos 0) (negsuc 0) (pos 0)), refused 15)
     ∷ []
 
 -- Each is answered as the table says.
-pub t-cases : map (λ c. shownOf (decision true Seed (c .0) clock rows)) cases ≡ map (λ c. c .1) cases
-unfolding clock id rows asking shownOf cases numberOf firstOf leOf leBytes beOf beBytes partOf beAt indexAbove31 gkidAt rootAt rootBytes sameRoot keysAllowed l1KeyAllowed l2KeyAllowed keysOf seedForm ofGroup l1Reaches l2Reaches reaches bitAt bit rowWhere count table rowOf mapOf emptyMap totalOf seedOutcome shown formReach below outside outOfRange unset mixed laterThenZ laterThanNow names natural namedOf askedOf tableWrong rowAt suitable rank every orElse firstWhere firstHighest chosenRow rightsTooLow checks grantedAt formFor wantedOf withoutRow withRow granting unlessRefused decision answerNumber answerAt answerForm
+pub t-cases : map (λ c. reply (c .0)) cases ≡ map (λ c. c .1) cases
+unfolding clock id rows asking reply shownOf cases startOf startNumber startShown numberOf firstOf leOf leBytes beOf beBytes partOf beAt indexAbove31 gkidAt rootAt rootBytes sameRoot keysAllowed l1KeyAllowed l2KeyAllowed keysOf seedForm ofGroup l1Reaches l2Reaches reaches bitAt bit rowWhere count table rowOf mapOf emptyMap totalOf seedOutcome shown formReach below outside outOfRange unset mixed laterThenZ laterThanNow names natural namedOf askedOf tableWrong rowAt suitable rank every orElse firstWhere firstHighest chosenRow rightsTooLow checks grantedAt formFor wantedOf withoutRow withRow granting unlessRefused decision answerNumber answerAt answerForm
 t-cases = refl
 
 -- An accepted answer of each kind of request: root given or not, and all -1 or named; and CREATE. So nothing that is shown of accepted

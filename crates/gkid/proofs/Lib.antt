@@ -1,4 +1,3 @@
 pub mod Order
 pub mod Times
 pub mod NextOlder
-pub mod TCases

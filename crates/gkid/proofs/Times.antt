@@ -5,6 +5,7 @@ use mathlib.Core.Bool.{false, cond}
 use mathlib.Core.Path.{_≡_, refl, sym, subst, _∙_}
 use lib.Dec.{leb, ltb}
 use borrow.Author.Tests.{ltb-true, ltb-false, le-ltb, le-leb, lt-leb}
+use Rattle.refusal.specs.declared.Refusal.{Refusal}
 use Rattle.refusal.specs.declared.Refusal.the-variants.{IndexAbove31, StartPastTime}
 use Rattle.gkid.specs.declared.FileTime.{FileTime}
 use Rattle.gkid.specs.declared.Gkid.{Gkid}
@@ -12,9 +13,14 @@ use Rattle.gkid.specs.declared.Start.{Start}
 use Rattle.gkid.specs.declared.Start.the-variants.{At, Refused}
 use Rattle.gkid.specs.Identifier.{indexAbove31, InGroup, later}
 use Rattle.gkid.specs.Conversion.{l2Step, gkidAt, highest}
-use Rattle.gkid.specs.Start.{startTime, startOf}
+use Rattle.gkid.specs.Start.{startTime, startOf, startShown}
 use Rattle.refusal.proofs.Cases.{by-cases, cond-cases, cond-else}
 use Rattle.gkid.proofs.Order.{in-group, not-above, ordinal, later-ordinal, ordinal-injective}
+
+-- Beside a refusal's number stands zero.
+pub refused-zero : (r : Refusal) → startShown (Refused r) ≡ 0
+unfolding startShown
+refused-zero r = refl
 
 -- For L1 and L2 up to 31, the start time exceeds 64 bits exactly where the identifier is later than the highest.
 pub past-time : (i : Gkid) → InGroup i → leb (2 ^ 64) (startTime i) ≡ later i highest

@@ -5,13 +5,12 @@ use mathlib.Core.Bool.{Bool, true, false, not, cond, _&&_, _||_}
 use mathlib.Core.Path.{_≡_, refl, ap₂}
 use lib.Dec.{eqb, leb, ltb}
 use borrow.Author.Tests.{eqb-true, ltb-true}
-use Rattle.refusal.proofs.Cases.{by-cases}
+use Rattle.refusal.proofs.Cases.{by-cases, both-true}
 use Rattle.gkid.specs.declared.Gkid.{Gkid}
 use Rattle.reach.specs.declared.Keys.{Keys}
 use Rattle.reach.specs.KeyRule.{l1KeyAllowed, l2KeyAllowed, keysAllowed}
 use Rattle.reach.specs.Reached.{ofGroup, l1Reaches, l2Reaches}
 use Rattle.reach.specs.FormReach.{seedKeysAllowed}
-use Rattle.reach.proofs.ReachLaws.{both-true}
 
 -- An envelope may carry no key.
 pub none-allowed : (public : Bool) (at : Gkid) (publicLen : ℕ) → keysAllowed public at publicLen 0 0 ≡ true

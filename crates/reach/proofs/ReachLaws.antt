@@ -1,17 +1,14 @@
 -- Laws of what keys reach: only identifiers of the L0 group.
-use mathlib.Core.Bool.{Bool, true, false, not, _&&_, and-false, false≢true}
+use mathlib.Core.Bool.{true, false, not, and-false}
 use mathlib.Core.Path.{_≡_, refl}
 use lib.Dec.{eqb}
 use borrow.Author.Tests.{eqb-true, eq-eqb, not-true}
+use Rattle.refusal.proofs.Cases.{both-true}
 use Rattle.gkid.specs.declared.Gkid.{Gkid}
 use Rattle.gkid.specs.Identifier.{indexAbove31, InGroup}
 use Rattle.gkid.proofs.Order.{in-group, not-above}
 use Rattle.reach.specs.declared.Keys.{Keys}
 use Rattle.reach.specs.Reached.{ofGroup, l1Reaches, l2Reaches, reaches}
-
-pub both-true : (a b : Bool) → a && b ≡ true → (a ≡ true) × (b ≡ true)
-both-true true b e = (refl, e)
-both-true false b e = absurd (false≢true e)
 
 -- Of the L0 group: the same L0, and L1 and L2 at most 31.
 pub group-is : (at i : Gkid) → ofGroup at i ≡ true → (i .l0 .0 ≡ at .l0 .0) × InGroup i

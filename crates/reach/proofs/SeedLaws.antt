@@ -1,12 +1,12 @@
 -- Laws of the form that seed rights give at an identifier: it is not refused, it reaches exactly the identifiers of the L0 group up
 -- to that one, 32·L1 + L2 + 1 of them, and what it reaches is reached from every later identifier of the group too.
-use Prim.Native.Nat.{ℕ, zero, suc, _+_, _*_, _≤_, _<_, min}
+use Prim.Native.Nat.{ℕ, zero, suc, _+_, _*_, _<_, min}
 use native.Mathlib.Omega.{arith}
 use mathlib.Core.Bool.{true, false, not, _&&_, _||_, and-false, or-false}
 use mathlib.Core.Path.{_≡_, refl, sym, ap, _∙_}
 use lib.Dec.{eqb, leb, ltb}
 use borrow.Author.Tests.{eqb-true, eqb-false, leb-true, leb-false, ltb-true, ltb-false, le-leb, lt-leb, le-ltb, not-true}
-use Rattle.refusal.proofs.Cases.{by-cases, cond-cases}
+use Rattle.refusal.proofs.Cases.{by-cases, cond-cases, both-true, leb-same}
 use Rattle.refusal.specs.declared.Outcome.the-variants.{Accepted}
 use Rattle.gkid.specs.declared.Gkid.{Gkid}
 use Rattle.gkid.specs.Identifier.{InGroup, later}
@@ -19,7 +19,7 @@ use Rattle.reach.specs.Bits.{bit, count}
 use Rattle.reach.specs.Maps.{mapOf, inMap, totalOf}
 use Rattle.reach.specs.FormReach.{seedKeysAllowed, formReach}
 use Rattle.reach.proofs.BitLaws.{count-is}
-use Rattle.reach.proofs.ReachLaws.{both-true, group-is, is-group, outside}
+use Rattle.reach.proofs.ReachLaws.{group-is, is-group, outside}
 use Rattle.reach.proofs.MapLaws.{in-map, member, map-total}
 use Rattle.reach.proofs.KeyLaws.{seed-keys}
 use Rattle.reach.proofs.FormLaws.{accepted}
@@ -42,11 +42,6 @@ seed-allowed at =
 pub seed-accepted : (at : Gkid) → InGroup at → formReach (seedForm at) at ≡ record { outcome = Accepted; rows = mapOf (keysOf (seedForm at)) at }
 seed-accepted at g = accepted (seedForm at) at g (seed-allowed at)
 
-leb-is : (a b c d : ℕ) → (a ≤ b → c ≤ d) → (c ≤ d → a ≤ b) → leb a b ≡ leb c d
-leb-is a b c d f g =
-    by-cases (λ t. t ≡ leb c d) (leb a b) (λ e. sym (le-leb c d (f (leb-true a b e))))
-    (λ e. by-cases (λ t. false ≡ t) (leb c d) (λ k. absurd (omega (arith, g (leb-true c d k), leb-false a b e))) (λ k. refl))
-
 leb-not-ltb : (a b : ℕ) → leb a b ≡ not (ltb b a)
 leb-not-ltb a b = by-cases (λ t. leb a b ≡ not t) (ltb b a) (λ e. lt-leb a b (ltb-true b a e)) (λ e. le-leb a b (ltb-false b a e))
 
@@ -57,14 +52,14 @@ up-to at i e g h =
     by-cases (λ t. t || eqb (i .l1 .0) (at .l1 .0) && leb (i .l2 .0) (at .l2 .0) ≡ leb (ordinal i) (ordinal at)) (ltb (i .l1 .0) (at .l1 .0))
     (λ l. sym (le-leb (ordinal i) (ordinal at) (omega (arith, ltb-true))))
     (λ l. by-cases (λ t. t && leb (i .l2 .0) (at .l2 .0) ≡ leb (ordinal i) (ordinal at)) (eqb (i .l1 .0) (at .l1 .0))
-    (λ s. let same = eqb-true (i .l1 .0) (at .l1 .0) s in leb-is (i .l2 .0) (at .l2 .0) (ordinal i) (ordinal at) (omega arith) (omega arith))
+    (λ s. let same = eqb-true (i .l1 .0) (at .l1 .0) s in leb-same (i .l2 .0) (at .l2 .0) (ordinal i) (ordinal at) (omega arith) (omega arith))
     (λ s. sym (lt-leb (ordinal i) (ordinal at) (omega (arith, ltb-false, eqb-false (i .l1 .0) (at .l1 .0) s)))))
 
 inside : (at i : Gkid) → i .l0 .0 ≡ at .l0 .0 → InGroup at → InGroup i → reaches (keysOf (seedForm at)) at i ≡ leb (ordinal i) (ordinal at)
 unfolding keysOf reaches l1Reaches l2Reaches
 inside at i e g h =
     form-cases (λ form. reaches (keysOf form) at i ≡ leb (ordinal i) (ordinal at)) at
-    (λ l. rw (is-group at i e h, l, or-false) (let last = eqb-true (at .l2 .0) 31 l in leb-is (i .l1 .0) (at .l1 .0) (ordinal i) (ordinal at) (omega arith) (omega arith)))
+    (λ l. rw (is-group at i e h, l, or-false) (let last = eqb-true (at .l2 .0) 31 l in leb-same (i .l1 .0) (at .l1 .0) (ordinal i) (ordinal at) (omega arith) (omega arith)))
     (λ l f. rw (is-group at i e h) (rw (le-ltb (i .l1 .0) (at .l1 .0) (omega (arith, eqb-true (at .l1 .0) 0 f))) at (up-to at i e g h)))
     (λ l f. rw (is-group at i e h, l) (up-to at i e g h))
 
@@ -96,7 +91,7 @@ seed-total at g =
     let below : 32 * at .l1 .0 + at .l2 .0 < 1024 = omega arith in
     rw (seed-accepted at g)
     (map-total (keysOf (seedForm at)) at
-    ∙ count-is 1024 (λ n h. inside at (member (at .l0 .0) n) refl g (omega arith) ∙ leb-is (ordinal (member (at .l0 .0) n)) (ordinal at) n (32 * at .l1 .0 + at .l2 .0) (omega arith) (omega arith))
+    ∙ count-is 1024 (λ n h. inside at (member (at .l0 .0) n) refl g (omega arith) ∙ leb-same (ordinal (member (at .l0 .0) n)) (ordinal at) n (32 * at .l1 .0 + at .l2 .0) (omega arith) (omega arith))
     ∙ count-to 1024 _ ∙ omega arith)
 
 -- What it reaches, the form at a later identifier of the group reaches too.

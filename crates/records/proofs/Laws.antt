@@ -11,8 +11,7 @@ use Rattle.refusal.specs.declared.Outcome.the-variants as outcome
 use Rattle.refusal.specs.declared.Refusal.{Refusal}
 use Rattle.refusal.specs.declared.Refusal.the-variants.{NoRoom}
 use Rattle.refusal.specs.Chain.{refuseIf}
-use Rattle.refusal.proofs.Cases.{by-cases}
-use Rattle.wire.proofs.Parts.{leb-same}
+use Rattle.refusal.proofs.Cases.{by-cases, leb-same}
 use Rattle.wire.proofs.Writing.{take-onto, drop-onto}
 use Rattle.records.specs.declared.Written.the-variants.{Length, Refused}
 use Rattle.records.specs.Writing.{writtenOf, withLength, outputOf}

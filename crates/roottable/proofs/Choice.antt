@@ -2,13 +2,13 @@
 -- where none is suitable; and one pass over the rows finds it.
 use Prim.Native.Nat.{ℕ, zero, suc, _≤_, _<_}
 use native.Mathlib.Omega.{arith}
-use mathlib.Core.Bool.{Bool, true, false, cond, not, _&&_, _||_, true≢false, false≢true}
+use mathlib.Core.Bool.{Bool, true, false, cond, not, _&&_, _||_, true≢false}
 use mathlib.Core.List.{List}
 use mathlib.Core.Path.{_≡_, refl, sym, subst, _∙_}
 use lib.Dec.{leb, ltb}
 use borrow.Author.Count.{below-more}
 use borrow.Author.Tests.{leb-true, le-leb, ltb-true, ltb-false}
-use Rattle.refusal.proofs.Cases.{by-cases, cond-cases}
+use Rattle.refusal.proofs.Cases.{by-cases, cond-cases, both-true}
 use Rattle.roottable.specs.declared.Wanted.{Wanted}
 use Rattle.roottable.specs.declared.Found.{Found}
 use Rattle.roottable.specs.declared.Found.the-variants as found
@@ -30,10 +30,6 @@ NoneSuits n suits = (j : ℕ) → j < n → suits j ≡ false
 abbrev pub Says : ℕ → (ℕ → Bool) → (ℕ → ℕ) → Found → Type 0
 Says n suits height (found.Row k) = Chosen n suits height k
 Says n suits height found.None = NoneSuits n suits
-
-both-true : (a b : Bool) → a && b ≡ true → (a ≡ true) × (b ≡ true)
-both-true true b e = (refl, e)
-both-true false b e = absurd (false≢true e)
 
 every-all : (n : ℕ) (test : ℕ → Bool) → every n test ≡ true → (j : ℕ) → j < n → test j ≡ true
 unfolding every

@@ -8,13 +8,8 @@ use lib.Seq.{length-take-le, take-at, drop-at, take-add, drop-drop, take-length,
 use mathlib.Core.Bool.{cond}
 use lib.Dec.{leb}
 use borrow.Author.Tests.{le-leb, lt-leb, leb-true, leb-false}
-use Rattle.refusal.proofs.Cases.{by-cases}
+use Rattle.refusal.proofs.Cases.{by-cases, leb-same}
 use Rattle.wire.specs.Parts.{partOf, startOf, joined}
-
--- two tests of orders that hold together and fail together
-pub leb-same : (a b c d : ℕ) → (a ≤ b → c ≤ d) → (b < a → d < c) → leb a b ≡ leb c d
-leb-same a b c d holds fails =
-    by-cases (λ t. t ≡ leb c d) (leb a b) (λ q. sym (le-leb c d (holds (leb-true a b q)))) (λ q. sym (lt-leb c d (fails (leb-false a b q))))
 
 pub part-in : (s : List ℕ) (at len : ℕ) → at + len ≤ length s → partOf s at len ≡ take len (drop at s)
 unfolding partOf
