@@ -1,4 +1,5 @@
 // Records put together in a lent buffer.
+use wire::put_be64;
 use wire::put_le32;
 use wire::put_le32s;
 
@@ -13,6 +14,13 @@ pub fn number(dst: &mut [u8], at: usize, x: u32) {
 pub fn numbers(dst: &mut [u8], at: usize, xs: &[u32]) {
     if at <= dst.len() {
         put_le32s(&mut dst[at..], xs);
+    }
+}
+
+// A 64-bit number put at an offset, the most significant byte first, where it fits.
+pub fn most_significant_first(dst: &mut [u8], at: usize, x: u64) {
+    if at <= dst.len() {
+        put_be64(&mut dst[at..], x);
     }
 }
 

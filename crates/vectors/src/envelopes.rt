@@ -10,7 +10,6 @@ use gkid::Gkid;
 use gkid::L0;
 use gkid::L1;
 use gkid::L2;
-use reach::Form;
 use records::Written;
 use rootid::RootId;
 
@@ -226,20 +225,10 @@ fn read(s: &[u8]) {
             let rows = reach.rows;
             say::text(b" ENV");
             say::identifier(at);
-            word(serving::form_of(envelope));
+            say::form(serving::form_of(envelope));
             say::number(reach::total(rows) as u64);
         }
         EnvelopeRead::Refused(refusal) => say::refused(refusal),
-    }
-}
-
-fn word(form: Form) {
-    match form {
-        Form::Keyless => say::text(b" NOKEY"),
-        Form::L1Only => say::text(b" L1ONLY"),
-        Form::L2Only => say::text(b" L2ONLY"),
-        Form::Both => say::text(b" BOTH"),
-        Form::Public => say::text(b" PUBLIC"),
     }
 }
 

@@ -2,6 +2,7 @@
 // answers. The file `stdout` beside src/ holds what the paper says.
 mod build;
 mod choices;
+mod decisions;
 mod efskeys;
 mod entries;
 mod envelopes;
@@ -16,4 +17,5 @@ fn main() {
     efskeys::run();
     envelopes::run();
     choices::run();
+    decisions::run();
 }

@@ -1,6 +1,7 @@
 // Words and numbers on standard output.
 use gkid::Gkid;
 use libc::STDOUT_FILENO;
+use reach::Form;
 use records::Written;
 use refusal::Refusal;
 use wire::Span;
@@ -28,6 +29,17 @@ pub fn identifier(i: Gkid) {
     number(i.l0.0 as u64);
     number(i.l1.0 as u64);
     number(i.l2.0 as u64);
+}
+
+// A form's word.
+pub fn form(form: Form) {
+    match form {
+        Form::Keyless => text(b" NOKEY"),
+        Form::L1Only => text(b" L1ONLY"),
+        Form::L2Only => text(b" L2ONLY"),
+        Form::Both => text(b" BOTH"),
+        Form::Public => text(b" PUBLIC"),
+    }
 }
 
 // A place: its offset and its length.
