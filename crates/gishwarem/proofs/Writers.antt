@@ -1,0 +1,22 @@
+-- What a writer of the library ensures, carried to its answer for C.
+use Prim.Native.Nat.{ℕ}
+use mathlib.Core.Path.{_≡_, ap, _∙_}
+use mathlib.Core.List.{List}
+use lib.ListN.{length}
+use Rattle.records.specs.declared.Written.{Written}
+use Rattle.records.specs.Writing.{outputOf}
+use Rattle.envelope.specs.declared.Head.{Head}
+use Rattle.envelope.specs.Writing.{Given, envelopeBytes, Wrote}
+use Rattle.gishwarem.specs.declared.shapes.WrittenAnswer.{WrittenAnswer}
+use Rattle.gishwarem.specs.Shapes.{writtenAnswer}
+use Rattle.gishwarem.specs.Envelopes.{envelopeWritten}
+
+-- the answer and the output, where the library's answer is known
+pub laid : (bytes before : List ℕ) {r : WrittenAnswer} {w v : Written} {after : List ℕ} → r ≡ writtenAnswer w → w ≡ v
+    → after ≡ outputOf w bytes before → (r ≡ writtenAnswer v) × (after ≡ outputOf v bytes before)
+laid bytes before answered known output = (answered ∙ ap writtenAnswer known, output ∙ ap (λ w. outputOf w bytes before) known)
+
+pub laid-envelope : {h k : Head} (g : Given) (before : List ℕ) {r : WrittenAnswer} {w : Written} {after : List ℕ} → h ≡ k
+    → r ≡ writtenAnswer w → Wrote h g before w after
+    → (r ≡ writtenAnswer (envelopeWritten k g (length before))) × (after ≡ outputOf (envelopeWritten k g (length before)) (envelopeBytes k g) before)
+laid-envelope {h} g before same answered wrote = rw (← same) (laid (envelopeBytes h g) before answered (wrote .answer) (wrote .output))

@@ -1,0 +1,28 @@
+-- `algorithm_code`: the case is told.
+use Rattle.gishwarem.specs.Codes.{algorithmCode}
+use borrow.Author.Needs.{needs}
+use Rattle.gishwarem.proofs.codes.algorithm_code.Statement.{statement}
+use Rattle.gishwarem.proofs.codes.algorithm_code.Tie as tie
+
+returns : tie.Need-returns
+unfolding algorithmCode
+returns c = rw (c .enum-told .given .1)
+
+returns-2 : tie.Need-returns-2
+unfolding algorithmCode
+returns-2 c = rw (c .enum-told2 .given .1)
+
+returns-3 : tie.Need-returns-3
+unfolding algorithmCode
+returns-3 c = rw (c .enum-told3 .given .1)
+
+pub algorithm-code-spec : {M : Type 1} → statement M
+algorithm-code-spec =
+    tie.close
+    (tie.spec
+    (λ c. search needs)
+    (λ c. search needs)
+    (λ c. search needs)
+    returns
+    returns-2
+    returns-3)

@@ -1,0 +1,19 @@
+-- `root_from`: 1 names a root key.
+use Rattle.gishwarem.proofs.Tests.{tests}
+use borrow.Author.Needs.{needs}
+use Rattle.gishwarem.proofs.decisions.root_from.Statement.{statement}
+use Rattle.gishwarem.proofs.decisions.root_from.Tie as tie
+
+returns : tie.Need-returns
+returns c = rw (c .to-root .ensures) (search tests)
+
+returns-2 : tie.Need-returns-2
+returns-2 c = search tests
+
+pub root-from-spec : {M : Type 1} → statement M
+root-from-spec =
+    tie.close
+    (tie.spec
+    (λ c κs. search needs)
+    returns
+    returns-2)

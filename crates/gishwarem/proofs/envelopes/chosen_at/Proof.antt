@@ -1,0 +1,15 @@
+-- `chosen_at`: what it calls ensures it.
+use borrow.Author.Needs.{needs}
+use Rattle.gishwarem.proofs.envelopes.chosen_at.Statement.{statement}
+use Rattle.gishwarem.proofs.envelopes.chosen_at.Tie as tie
+
+returns : tie.Need-returns
+returns c = rw (c .to-part .ensures, c .before .key-code .ensures)
+
+pub chosen-at-spec : {M : Type 1} → statement M
+chosen-at-spec =
+    tie.close
+    (tie.spec
+    (λ c κs. search needs)
+    (λ c κs. search needs)
+    returns)

@@ -1,0 +1,17 @@
+-- `to_bytes`: sixteen bytes put over sixteen.
+use Rattle.wire.proofs.Writing.{onto-whole}
+use Rattle.rootid.proofs.Roots.{length-rootBytes}
+use borrow.Author.Needs.{needs}
+use Rattle.gishwarem.proofs.shapes.to_bytes.Statement.{statement}
+use Rattle.gishwarem.proofs.shapes.to_bytes.Tie as tie
+
+returns : tie.Need-returns
+returns c = rw (c .before .put .ensures, onto-whole _ _ (length-rootBytes (c .before .before .before .args .root)))
+
+pub to-bytes-spec : {M : Type 1} → statement M
+to-bytes-spec =
+    tie.close
+    (tie.spec
+    (λ c. search needs)
+    (λ c κs. search needs)
+    returns)

@@ -1,0 +1,27 @@
+-- Document 01, "Reach, and the two envelopes", for C.
+use Prim.Native.Nat.{ℕ}
+use Rattle.wire.specs.declared.Span.{Span}
+use Rattle.reach.specs.declared.Reach.{Reach}
+use Rattle.reach.specs.Maps.{totalOf}
+use Rattle.reach.specs.FormReach.{reachNumber}
+use Rattle.serving.specs.declared.SeedKey.{SeedKey}
+use Rattle.serving.specs.declared.Choice.{Choice}
+use Rattle.serving.specs.declared.Choice.the-variants.{Cached, Fetched, Neither}
+use Rattle.serving.specs.Choice.{choiceNumber}
+use Rattle.gishwarem.specs.declared.envelopes.ReachAnswer.{ReachAnswer}
+use Rattle.gishwarem.specs.declared.envelopes.ChoiceAnswer.{ChoiceAnswer}
+use Rattle.gishwarem.specs.Codes.{keyCode}
+use Rattle.gishwarem.specs.Shapes.{partOf, noPart}
+
+-- the number, the map and the number of its set bits
+unfoldable pub reachAnswer : Reach → ReachAnswer
+reachAnswer r = record { refusal = reachNumber r; total = totalOf (r .rows); rows = r .rows }
+
+-- the envelope that serves, the key by which it does, and where that stands
+abbrev pub chosenAt : ℕ → SeedKey → Span → ChoiceAnswer
+chosenAt which key span = record { refusal = 0; which = which; key = keyCode key; reserved = 0; place = partOf span }
+
+unfoldable pub choiceAnswer : Choice → ChoiceAnswer
+choiceAnswer (Cached key span) = chosenAt 1 key span
+choiceAnswer (Fetched key span) = chosenAt 2 key span
+choiceAnswer Neither = record { refusal = choiceNumber Neither; which = 0; key = 0; reserved = 0; place = noPart }

@@ -1,0 +1,357 @@
+/* Gishwarem: key records of encrypted files, group key envelopes and the GetKey decision.
+ *
+ * Every function answers by value, the refusal's number first: 0 is accepted. On a refusal every other field is zero, but for
+ * the index of a list's entry. A part is a place in the caller's own bytes. Nothing is kept between calls, nothing is
+ * allocated, and any bytes and numbers get an answer.
+ *
+ * What the caller owes: a pointer and its length name bytes that may be read for the length of the call (written, for `out`),
+ * and `out` shares no byte with what is handed in beside it. A length of 0 goes with any pointer, NULL too.
+ *
+ * Codes: 0 is none, refused or the weakest; real cases count from 1. A code handed in that is not listed is the weakest one. */
+#ifndef GISHWAREM_H
+#define GISHWAREM_H
+
+#include <stddef.h>
+#include <stdint.h>
+
+#ifdef __cplusplus
+extern "C" {
+#endif
+
+/* Refusal numbers. */
+#define GW_ACCEPTED 0u            /* not refused */
+#define GW_TOO_LONG 1u            /* record or list longer than 65,535 bytes */
+#define GW_SHORT 2u               /* shorter than its fixed head: list 4, entry 20, EfsKey 32, envelope 80 */
+#define GW_LENGTHS_DISAGREE 3u    /* a length field or the sum of lengths disagrees with the bytes */
+#define GW_WRONG_MARK 4u          /* fixed mark wrong */
+#define GW_INDEX_ABOVE_31 5u      /* L1 or L2 index above 31 */
+#define GW_MISPLACED 6u           /* an item not at a permitted place */
+#define GW_EMPTY_ITEM 7u          /* an item empty, or a public key item's length below 4 */
+#define GW_OVERLAP 8u             /* items overlap */
+#define GW_UNUSED_RUN 9u          /* unused run over 8 bytes */
+#define GW_MALFORMED_TEXT 10u     /* text malformed */
+#define GW_KEY_LENGTH 11u         /* key length breaks the key rules */
+#define GW_MALFORMED_SID 12u      /* SID malformed */
+#define GW_NO_ROOM 13u            /* output buffer shorter than the record */
+#define GW_INDEX_OUT_OF_RANGE 14u /* requested index out of range */
+#define GW_MIXED_INDICES 15u      /* requested indices mix -1 with others */
+#define GW_VERDICT_NO 16u         /* descriptor verdict is no */
+#define GW_LATER_THAN_NOW 17u     /* request later than now */
+#define GW_RIGHTS_TOO_LOW 18u     /* rights too low */
+#define GW_NO_ROOT_KEY 19u        /* no suitable root key */
+#define GW_TABLE_LENGTH 20u       /* root table length no multiple of 32, or over 64 rows */
+#define GW_START_PAST_TIME 21u    /* identifier's start time exceeds 64 bits */
+#define GW_BYTES_LEFT 22u         /* bytes left after the last list entry */
+#define GW_NEITHER_SERVES 23u     /* neither envelope serves */
+
+/* Algorithms of an entry's FEK. */
+#define GW_ALGORITHM_RSA 1u         /* Flags 0 */
+#define GW_ALGORITHM_AES256 2u      /* Flags 1 */
+#define GW_ALGORITHM_UNSUPPORTED 3u /* any other Flags */
+
+/* What a step of a list's walk finds. */
+#define GW_STEP_ENTRY 1u /* an entry */
+#define GW_STEP_END 2u   /* the end of the list */
+
+/* The SID of an EfsKey. */
+#define GW_SID_NONE 0u /* there is none */
+#define GW_SID_GIVEN 1u /* there is one */
+
+/* Forms: the keys that an envelope carries, or that a request is granted. */
+#define GW_FORM_KEYLESS 0u /* NOKEY: none */
+#define GW_FORM_L1ONLY 1u  /* an L1 seed key */
+#define GW_FORM_L2ONLY 2u  /* an L2 seed key */
+#define GW_FORM_BOTH 3u    /* an L1 and an L2 seed key */
+#define GW_FORM_PUBLIC 4u  /* a public key */
+
+/* Rights of a caller. */
+#define GW_RIGHTS_NONE 0u   /* nothing */
+#define GW_RIGHTS_PUBLIC 1u /* public keys */
+#define GW_RIGHTS_SEED 2u   /* seed keys */
+
+/* The verdict on a security descriptor. */
+#define GW_VERDICT_IS_NO 0u  /* no */
+#define GW_VERDICT_IS_YES 1u /* yes */
+
+/* The root key of a request. */
+#define GW_ROOT_NONE 0u  /* none is named */
+#define GW_ROOT_GIVEN 1u /* the one in `root` */
+
+/* What a decision grants. */
+#define GW_GRANTED_ROW 1u    /* a key under the root key in `row` */
+#define GW_GRANTED_CREATE 2u /* a key under a root key that is yet to be created */
+
+/* Which envelope serves, and by which key. */
+#define GW_CACHED 1u  /* the cached one */
+#define GW_FETCHED 2u /* the fetched one */
+#define GW_KEY_L1 1u  /* its L1 key */
+#define GW_KEY_L2 2u  /* its L2 key */
+
+/* A part of the caller's bytes: on a refusal, and for what is absent, both are 0. */
+typedef struct gw_part {
+    size_t at;  /* offset of its first byte */
+    size_t len; /* its length */
+} gw_part;
+
+/* A group key identifier. */
+typedef struct gw_identifier {
+    uint32_t l0; /* L0 index */
+    uint32_t l1; /* L1 index, 0 to 31 */
+    uint32_t l2; /* L2 index, 0 to 31 */
+} gw_identifier;
+
+/* A root key identifier. */
+typedef struct gw_root {
+    uint8_t bytes[16]; /* as they stand in an envelope and in a row of the root table */
+} gw_root;
+
+/* What a writer answers. */
+typedef struct gw_written_answer {
+    uint32_t refusal;  /* refusal number */
+    uint32_t reserved; /* 0 */
+    size_t len;        /* length of the record that was written */
+} gw_written_answer;
+
+/* A Key List Entry. */
+typedef struct gw_entry_answer {
+    uint32_t refusal;   /* refusal number */
+    uint32_t algorithm; /* GW_ALGORITHM_.. */
+    uint32_t flags;     /* Flags, as they stand */
+    uint32_t reserved;  /* 0 */
+    gw_part item;       /* the public key item */
+    gw_part fek;        /* the FEK */
+} gw_entry_answer;
+
+/* A list of entries, judged whole. */
+typedef struct gw_list_answer {
+    uint32_t refusal; /* refusal number */
+    uint32_t count;   /* number of entries */
+    uint32_t index;   /* on a refusal that is given for an entry, that entry's index */
+} gw_list_answer;
+
+/* A step of a list's walk. */
+typedef struct gw_step_answer {
+    uint32_t refusal;    /* refusal number */
+    uint32_t found;      /* GW_STEP_.. */
+    uint32_t index;      /* the entry's index, also on a refusal that is given for it */
+    uint32_t algorithm;  /* GW_ALGORITHM_.. */
+    uint32_t flags;      /* Flags, as they stand */
+    uint32_t next_index; /* index to go on at */
+    size_t next_at;      /* offset to go on at */
+    size_t at;           /* offset of the entry in the list */
+    gw_part item;        /* the public key item, counted from the entry's first byte */
+    gw_part fek;         /* the FEK, counted from the entry's first byte */
+} gw_step_answer;
+
+/* An EfsKey. */
+typedef struct gw_efskey_answer {
+    uint32_t refusal;    /* refusal number */
+    uint32_t kind;       /* GW_SID_.. */
+    gw_part sid;         /* the SID */
+    gw_part certificate; /* the certificate */
+} gw_efskey_answer;
+
+/* The head of a Group Key Envelope. */
+typedef struct gw_head {
+    uint32_t version;        /* dwVersion */
+    uint32_t flags;          /* dwFlags; the value 1 is public */
+    gw_identifier at;        /* the identifier of its keys */
+    gw_root root;            /* the root key identifier */
+    uint32_t private_length; /* private key length */
+    uint32_t public_length;  /* public key length */
+} gw_head;
+
+/* The bodies of a Group Key Envelope, in their order. */
+typedef struct gw_bodies {
+    gw_part kdf;                  /* KDF algorithm */
+    gw_part kdf_parameters;       /* KDF parameters */
+    gw_part agreement;            /* secret agreement algorithm */
+    gw_part agreement_parameters; /* secret agreement parameters */
+    gw_part domain;               /* domain name */
+    gw_part forest;               /* forest name */
+    gw_part l1_key;               /* L1 key */
+    gw_part l2_key;               /* L2 key */
+} gw_bodies;
+
+/* A Group Key Envelope. */
+typedef struct gw_envelope_answer {
+    uint32_t refusal;   /* refusal number */
+    uint32_t form;      /* GW_FORM_.., by the keys present */
+    uint32_t is_public; /* 1 for a public envelope, with a key or without */
+    gw_head head;       /* the head's values */
+    gw_bodies bodies;   /* where the bodies stand */
+} gw_envelope_answer;
+
+/* A reach: which identifiers of an L0 group keys open. */
+typedef struct gw_reach_answer {
+    uint32_t refusal;  /* refusal number */
+    uint32_t total;    /* number of set bits in rows */
+    uint32_t rows[32]; /* a row for each L1 index; L2 index 0 is the most significant bit */
+} gw_reach_answer;
+
+/* An identifier, or none. */
+typedef struct gw_identifier_answer {
+    uint32_t refusal; /* refusal number */
+    uint32_t found;   /* 1 where there is one */
+    gw_identifier at; /* that one */
+} gw_identifier_answer;
+
+/* The start of an identifier. */
+typedef struct gw_start_answer {
+    uint32_t refusal;  /* refusal number */
+    uint32_t reserved; /* 0 */
+    uint64_t time;     /* FILETIME at which it starts */
+} gw_start_answer;
+
+/* A request for a group key. */
+typedef struct gw_request {
+    uint32_t root_given; /* GW_ROOT_.. */
+    int32_t l0;          /* L0 index, or -1 in all three for the latest */
+    int32_t l1;          /* L1 index */
+    int32_t l2;          /* L2 index */
+    gw_root root;        /* the root key, where one is given */
+} gw_request;
+
+/* A decision on a request. */
+typedef struct gw_decision_answer {
+    uint32_t refusal; /* refusal number */
+    uint32_t granted; /* GW_GRANTED_.. */
+    uint32_t form;    /* GW_FORM_.. */
+    gw_identifier at; /* the identifier granted */
+    size_t row;       /* row of the root table, counted from 0 */
+} gw_decision_answer;
+
+/* A choice between two envelopes. */
+typedef struct gw_choice_answer {
+    uint32_t refusal;  /* refusal number */
+    uint32_t which;    /* GW_CACHED or GW_FETCHED */
+    uint32_t key;      /* GW_KEY_L1 or GW_KEY_L2 */
+    uint32_t reserved; /* 0 */
+    gw_part place;     /* where that key stands in that envelope */
+} gw_choice_answer;
+
+/* Reads a Key List Entry. */
+gw_entry_answer gw_entry_read(const uint8_t *entry, size_t len);
+
+/* Writes a Key List Entry at the start of `out`; a refusal changes no byte of it. */
+gw_written_answer gw_entry_write(uint8_t *out, size_t room, uint32_t flags, const uint8_t *item, size_t item_len,
+                                 const uint8_t *fek, size_t fek_len);
+
+/* Judges a list of entries whole. */
+gw_list_answer gw_list_judge(const uint8_t *list, size_t len);
+
+/* One step of a list's walk, which starts at offset 4 and index 0 and goes on at next_at and next_index. */
+gw_step_answer gw_list_step(const uint8_t *list, size_t len, size_t at, uint32_t index);
+
+/* Reads an EfsKey. */
+gw_efskey_answer gw_efskey_read(const uint8_t *key, size_t len);
+
+/* Writes an EfsKey at the start of `out`; an empty SID means none. A refusal changes no byte of `out`. */
+gw_written_answer gw_efskey_write(uint8_t *out, size_t room, const uint8_t *sid, size_t sid_len, const uint8_t *certificate,
+                                  size_t certificate_len);
+
+/* Reads a Group Key Envelope. */
+gw_envelope_answer gw_envelope_read(const uint8_t *envelope, size_t len);
+
+/* Writes a Group Key Envelope at the start of `out`; a refusal changes no byte of it. */
+gw_written_answer gw_envelope_write(uint8_t *out, size_t room, gw_head head, const uint8_t *kdf, size_t kdf_len,
+                                    const uint8_t *kdf_parameters, size_t kdf_parameters_len, const uint8_t *agreement,
+                                    size_t agreement_len, const uint8_t *agreement_parameters,
+                                    size_t agreement_parameters_len, const uint8_t *domain, size_t domain_len,
+                                    const uint8_t *forest, size_t forest_len, const uint8_t *l1_key, size_t l1_key_len,
+                                    const uint8_t *l2_key, size_t l2_key_len);
+
+/* What an envelope's keys reach. */
+gw_reach_answer gw_envelope_reach(const uint8_t *envelope, size_t len);
+
+/* What a form reaches at an identifier. */
+gw_reach_answer gw_form_reach(uint32_t form, gw_identifier at);
+
+/* The identifier of a FILETIME reading. */
+gw_identifier_answer gw_time_identifier(uint64_t time);
+
+/* The reading at which an identifier starts. */
+gw_start_answer gw_identifier_start(gw_identifier at);
+
+/* The next older identifier of the same L0 group; (L0, 0, 0) has none. */
+gw_identifier_answer gw_identifier_older(gw_identifier at);
+
+/* The GetKey decision: GW_VERDICT_IS_.., GW_RIGHTS_.., a request, the clock as a FILETIME, and the root table. */
+gw_decision_answer gw_decide(uint32_t verdict, uint32_t rights, gw_request request, uint64_t clock, const uint8_t *table,
+                             size_t len);
+
+/* Which of two envelopes serves an identifier under a root key: the cached one if that serves, else the fetched one. */
+gw_choice_answer gw_choose(gw_root root, gw_identifier wanted, const uint8_t *cached, size_t cached_len,
+                           const uint8_t *fetched, size_t fetched_len);
+
+/* A refusal number in words, for logs. */
+static inline const char *gw_refusal_text(uint32_t number)
+{
+    static const char *const text[] = {
+        "accepted",
+        "record or list longer than 65,535 bytes",
+        "shorter than its fixed head",
+        "a length field or the sum of lengths disagrees with the bytes",
+        "fixed mark wrong",
+        "L1 or L2 index above 31",
+        "an item not at a permitted place",
+        "an item empty, or a public key item's length below 4",
+        "items overlap",
+        "unused run over 8 bytes",
+        "text malformed",
+        "key length breaks the key rules",
+        "SID malformed",
+        "output buffer shorter than the record",
+        "requested index out of range",
+        "requested indices mix -1 with others",
+        "descriptor verdict is no",
+        "request later than now",
+        "rights too low",
+        "no suitable root key",
+        "root table length no multiple of 32, or over 64 rows",
+        "identifier's start time exceeds 64 bits",
+        "bytes left after the last list entry",
+        "neither envelope serves",
+    };
+    return number < sizeof text / sizeof text[0] ? text[number] : "no such refusal number";
+}
+
+/* The layout that the library was built for: x86-64, with no padding in any answer. */
+#if defined(__cplusplus) && __cplusplus >= 201103L
+#define GW_ASSERT(name, fact) static_assert(fact, #name)
+#elif defined(__STDC_VERSION__) && __STDC_VERSION__ >= 201112L
+#define GW_ASSERT(name, fact) _Static_assert(fact, #name)
+#else
+#define GW_ASSERT(name, fact) typedef char gw_assert_##name[(fact) ? 1 : -1]
+#endif
+GW_ASSERT(size_of_size_t, sizeof(size_t) == 8);
+GW_ASSERT(part, sizeof(gw_part) == 16 && offsetof(gw_part, len) == 8);
+GW_ASSERT(identifier, sizeof(gw_identifier) == 12 && offsetof(gw_identifier, l2) == 8);
+GW_ASSERT(root, sizeof(gw_root) == 16);
+GW_ASSERT(written, sizeof(gw_written_answer) == 16 && offsetof(gw_written_answer, len) == 8);
+GW_ASSERT(entry, sizeof(gw_entry_answer) == 48 && offsetof(gw_entry_answer, item) == 16 && offsetof(gw_entry_answer, fek) == 32);
+GW_ASSERT(list, sizeof(gw_list_answer) == 12 && offsetof(gw_list_answer, index) == 8);
+GW_ASSERT(step, sizeof(gw_step_answer) == 72 && offsetof(gw_step_answer, next_index) == 20 &&
+                    offsetof(gw_step_answer, next_at) == 24 && offsetof(gw_step_answer, at) == 32 &&
+                    offsetof(gw_step_answer, item) == 40 && offsetof(gw_step_answer, fek) == 56);
+GW_ASSERT(efskey, sizeof(gw_efskey_answer) == 40 && offsetof(gw_efskey_answer, sid) == 8 &&
+                      offsetof(gw_efskey_answer, certificate) == 24);
+GW_ASSERT(head, sizeof(gw_head) == 44 && offsetof(gw_head, at) == 8 && offsetof(gw_head, root) == 20 &&
+                    offsetof(gw_head, private_length) == 36 && offsetof(gw_head, public_length) == 40);
+GW_ASSERT(bodies, sizeof(gw_bodies) == 128 && offsetof(gw_bodies, domain) == 64 && offsetof(gw_bodies, l2_key) == 112);
+GW_ASSERT(envelope, sizeof(gw_envelope_answer) == 184 && offsetof(gw_envelope_answer, head) == 12 &&
+                        offsetof(gw_envelope_answer, bodies) == 56);
+GW_ASSERT(reach, sizeof(gw_reach_answer) == 136 && offsetof(gw_reach_answer, rows) == 8);
+GW_ASSERT(identifier_answer, sizeof(gw_identifier_answer) == 20 && offsetof(gw_identifier_answer, at) == 8);
+GW_ASSERT(start, sizeof(gw_start_answer) == 16 && offsetof(gw_start_answer, time) == 8);
+GW_ASSERT(request, sizeof(gw_request) == 32 && offsetof(gw_request, l0) == 4 && offsetof(gw_request, root) == 16);
+GW_ASSERT(decision, sizeof(gw_decision_answer) == 32 && offsetof(gw_decision_answer, at) == 12 &&
+                        offsetof(gw_decision_answer, row) == 24);
+GW_ASSERT(choice, sizeof(gw_choice_answer) == 32 && offsetof(gw_choice_answer, place) == 16);
+#undef GW_ASSERT
+
+#ifdef __cplusplus
+}
+#endif
+
+#endif
