@@ -1,17 +1,45 @@
-# make run: the program on an envelope that is kept here. make vectors: the papers' bench cases. make test: the whole gate.
-.PHONY: run vectors test fmt
+# run: the program on an envelope that is kept here. test: the whole gate. lib: the static library and its header, into build/.
+# bench: the library against the reference. soak: both on random inputs until stopped. vectors: the papers' bench cases.
+.PHONY: run test lib bench soak vectors host doc fmt
+
+CARGO = cargo --offline --quiet
+CFLAGS = -std=c99 -Wall -Wextra -Werror -pedantic -O2
 
 run:
 	@mkdir -p target && rt check envinfo > target/run.log 2>&1 || { cat target/run.log; exit 1; }
 	@target/bin/envinfo < crates/envinfo/stdin
 	@echo "On a file of your own: target/bin/envinfo < FILE"
 
+test:
+	@scripts/gate
+
+lib:
+	@mkdir -p target build && rt staticlib gishwarem > target/lib.log 2>&1 || { cat target/lib.log; exit 1; }
+	@cp target/staticlib/libgishwarem.a include/gishwarem.h build/
+	@echo "build/libgishwarem.a and build/gishwarem.h"
+
+bench: lib
+	@cd rust && $(CARGO) run --release --bin bench
+
+soak: lib
+	@cd rust && $(CARGO) run --release --bin soak
+
 vectors:
 	@mkdir -p target && rt check vectors > target/run.log 2>&1 || { cat target/run.log; exit 1; }
 	@target/bin/vectors
 
-test:
-	@rt fmt --check && rt ci
+# The example host on its kept files.
+host: build/host
+	@cd examples/data && ../../build/host envelope table cached fetched
+
+build/host: examples/host.c include/gishwarem.h build/libgishwarem.a
+	@$(CC) $(CFLAGS) -Iinclude examples/host.c build/libgishwarem.a -o $@
+
+build/libgishwarem.a:
+	@$(MAKE) --no-print-directory lib
+
+doc: lib
+	@cd rust && $(CARGO) doc --no-deps -p gishwarem
 
 fmt:
-	@rt fmt
+	@rt fmt && cd rust && cargo fmt

@@ -28,6 +28,18 @@ use Rattle.envelope.specs.Layout.{mark, headOf, isPublic, lengthsOf, end
 abbrev pub bodyAt : List ℕ → Lengths → EnvelopePart → List ℕ
 bodyAt s n which = partOf s (bodySpan (bodiesOf n) which .at) (bodySpan (bodiesOf n) which .len)
 
+-- the checks of the bodies
+abbrev pub bodyChecks : List ℕ → Head → Lengths → List Check
+bodyChecks s h n =
+    -- 10 for the four texts
+    (not (isText (bodyAt s n Kdf)) ⇒ MalformedText)
+    ∷ (not (isText (bodyAt s n Agreement)) ⇒ MalformedText)
+    ∷ (not (isText (bodyAt s n Domain)) ⇒ MalformedText)
+    ∷ (not (isText (bodyAt s n Forest)) ⇒ MalformedText)
+    -- 11 for the keys
+    ∷ (not (keysAllowed (isPublic (h .flags)) (h .at) (h .publiclen) (n .l1key) (n .l2key)) ⇒ KeyLength)
+    ∷ []
+
 -- the checks after 1 and 2, of the number at the mark's place, the head and the lengths
 unfoldable pub layoutChecks : List ℕ → ℕ → Head → Lengths → List Check
 layoutChecks s marked h n =
@@ -37,14 +49,7 @@ layoutChecks s marked h n =
     ∷ (indexAbove31 (h .at) ⇒ IndexAbove31)
     -- 3 unless 80 plus the eight body lengths is the record's length
     ∷ (not (eqb (endAt n) (length s)) ⇒ LengthsDisagree)
-    -- 10 for the four texts
-    ∷ (not (isText (bodyAt s n Kdf)) ⇒ MalformedText)
-    ∷ (not (isText (bodyAt s n Agreement)) ⇒ MalformedText)
-    ∷ (not (isText (bodyAt s n Domain)) ⇒ MalformedText)
-    ∷ (not (isText (bodyAt s n Forest)) ⇒ MalformedText)
-    -- 11 for the keys
-    ∷ (not (keysAllowed (isPublic (h .flags)) (h .at) (h .publiclen) (n .l1key) (n .l2key)) ⇒ KeyLength)
-    ∷ []
+    ∷ bodyChecks s h n
 
 unfoldable pub envelopeChecks : List ℕ → List Check
 envelopeChecks s = (ltb 65535 (length s) ⇒ TooLong) ∷ (ltb (length s) 80 ⇒ Short) ∷ layoutChecks s (leAt 4 s 4) (headOf s) (lengthsOf s)

@@ -9,7 +9,7 @@ ghost use mathlib.Core.Bool.{not};
 ghost use Rattle.text.specs.Text.{isText};
 ghost use Rattle.reach.specs.KeyRule.{keysAllowed};
 ghost use Rattle.envelope.specs.Layout.{headOf, isPublic, lengthsOf, endAt, bodiesOf, bodySpan};
-ghost use Rattle.envelope.specs.Reading.{layoutChecks, envelopeOf, spanOf, envelopeSpan, envelopeBody};
+ghost use Rattle.envelope.specs.Reading.{bodyChecks, layoutChecks, envelopeOf, spanOf, envelopeSpan, envelopeBody};
 ghost use Rattle.envelope.specs.Writing.{given, givenLengths, headPieces, envelopeBytes, givenChecks, Wrote};
 use gkid::Gkid;
 use gkid::L0;
@@ -205,16 +205,27 @@ fn end_of(n: Lengths) -> usize
         + n.l2key as usize
 }
 
-// The checks after 1 and 2.
+// The checks after 1 and 2. The bodies are looked at only where mark, indices and lengths are sound.
 fn judge(s: &[u8], marked: u32, head: Head, n: Lengths) -> Outcome
     ensures { λ r. ⌜ r ≡ firstOf (layoutChecks (now (s .entry)) marked head n) ⌝ }
 {
-    let bodies = bodies_of(n);
     let at = head.at;
-    Outcome::Accepted
+    let sound = Outcome::Accepted
         .refuse_if(marked != 0x4B53444B, Refusal::WrongMark)
         .refuse_if(at.index_above_31(), Refusal::IndexAbove31)
-        .refuse_if(end_of(n) != s.len(), Refusal::LengthsDisagree)
+        .refuse_if(end_of(n) != s.len(), Refusal::LengthsDisagree);
+    match sound {
+        Outcome::Refused(first) => Outcome::Refused(first),
+        Outcome::Accepted => judge_bodies(s, head, n),
+    }
+}
+
+// 10 and 11.
+fn judge_bodies(s: &[u8], head: Head, n: Lengths) -> Outcome
+    ensures { λ r. ⌜ r ≡ firstOf (bodyChecks (now (s .entry)) head n) ⌝ }
+{
+    let bodies = bodies_of(n);
+    Outcome::Accepted
         .refuse_if(
             is_malformed(s, bodies, EnvelopePart::Kdf),
             Refusal::MalformedText,

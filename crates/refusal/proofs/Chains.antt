@@ -70,7 +70,7 @@ unfoldable pub run : Outcome → List Check → Outcome
 run o [] = o
 run o ((applies ⇒ r) ∷ checks) = run (refuseIf o applies r) checks
 
-run-refused : (checks : List Check) (r : Refusal) → run (Refused r) checks ≡ Refused r
+pub run-refused : (checks : List Check) (r : Refusal) → run (Refused r) checks ≡ Refused r
 unfolding run refuseIf
 run-refused [] r = refl
 run-refused ((applies ⇒ q) ∷ checks) r = run-refused checks r

@@ -79,10 +79,11 @@ fn row_at(table: &[u8], row: usize) -> Row
     ensures { λ r. ⌜ r ≡ rowAt (now (table .entry)) row ⌝ }
 {
     let at = ROW_SIZE * row;
+    let bytes = &table[at..at + 32];
     Row {
-        id: RootId::at(table, at),
-        starts: FileTime(wire::be64_at(table, at + 16)),
-        created: FileTime(wire::be64_at(table, at + 24)),
+        id: RootId::at(bytes, 0),
+        starts: FileTime(wire::be64_at(bytes, 16)),
+        created: FileTime(wire::be64_at(bytes, 24)),
     }
 }
 

@@ -1,5 +1,5 @@
 -- Laws of parts: those that lie inside, those that do not, parts of what was put together, and parts that follow each other.
-use Prim.Native.Nat.{ℕ, zero, suc, _+_, _≤_, _<_}
+use Prim.Native.Nat.{ℕ, zero, suc, _+_, _-_, _≤_, _<_}
 use native.Mathlib.Omega.{arith}
 use mathlib.Core.Path.{_≡_, refl, sym, ap, _∙_}
 use mathlib.Core.List.{List, [], _∷_, _++_, append-assoc}
@@ -71,6 +71,20 @@ part-next s at m n h =
     let first : at + m ≤ length s = omega arith in
     let both : at + (m + n) ≤ length s = omega arith in
     rw (part-in s at m first, part-in s (at + m) n h, part-in s at (m + n) both, take-add m n (drop at s), drop-drop m at s)
+
+-- A part of a part is a part of the whole.
+pub part-within : (s : List ℕ) (at len i n : ℕ) → at + len ≤ length s → i + n ≤ len → partOf (partOf s at len) i n ≡ partOf s (at + i) n
+part-within s at len i n h k =
+    let sum : i + (n + (len - (i + n))) ≡ len = omega arith in
+    let rest : at + i + (n + (len - (i + n))) ≤ length s = omega arith in
+    let last : at + i + n + (len - (i + n)) ≤ length s = omega arith in
+    let first : at + i ≤ length s = omega arith in
+    let both : at + i + n ≤ length s = omega arith in
+    let split : partOf s at len ≡ partOf s at i ++ (partOf s (at + i) n ++ partOf s (at + i + n) (len - (i + n))) =
+    ap (partOf s at) (sym sum) ∙ sym (part-next s at i _ rest) ∙ ap (λ t. partOf s at i ++ t) (sym (part-next s (at + i) n _ last))
+    in
+    rw split
+    (part-piece (partOf s at i) (partOf s (at + i) n) (partOf s (at + i + n) (len - (i + n))) i n (length-part s at i first) (length-part s (at + i) n both))
 
 pub part-whole : (s : List ℕ) → partOf s 0 (length s) ≡ s
 part-whole s = part-in s 0 (length s) (omega arith) ∙ take-length s

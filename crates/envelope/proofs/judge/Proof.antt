@@ -1,31 +1,32 @@
--- `judge`: one check after the other, each with the word of its rule.
+-- `judge`: a refusal of the head stands; else the bodies decide.
 use mathlib.Core.Bool.{not}
-use mathlib.Core.Path.{_≡_, ap, _∙_}
+use mathlib.Core.Path.{sym, ap, _∙_}
 use lib.Dec.{eqb}
 use lib.ListN.{length}
-use Rattle.refusal.proofs.Chains.{run, run-first, refuse-is}
+use Rattle.refusal.proofs.Chains.{run, run-first, run-refused, refuse-is}
 use Rattle.wire.specs.Numbers.{leOf}
-use Rattle.wire.specs.Parts.{partOf}
-use Rattle.text.specs.Text.{isText}
-use Rattle.envelope.specs.declared.EnvelopePart.{EnvelopePart}
-use Rattle.envelope.specs.declared.EnvelopePart.the-variants.{Kdf, Agreement, Domain, Forest}
-use Rattle.envelope.specs.Layout.{bodySpan}
-use Rattle.envelope.specs.Reading.{bodyAt, layoutChecks}
+use Rattle.envelope.specs.Reading.{bodyChecks, layoutChecks}
 use borrow.Author.Needs.{needs}
 use Rattle.envelope.proofs.judge.Statement.{statement}
 use Rattle.envelope.proofs.judge.Tie as tie
 
 returns : tie.Need-returns
 unfolding layoutChecks run leOf
-returns c =
-    let b = c .before .before .before .before .before .before .before .before .before .before .before .before .before .before .before .before .before .before in
-    let a = b .before .before .args in
+returns c = let a = c .before .before .before .before .before .before .before .before .before .before .args in
     let s = a .s .now in
-    let of : (which : EnvelopePart) → not (isText (partOf s (bodySpan (b .bodies-of .result) which .at) (bodySpan (b .bodies-of .result) which .len))) ≡ not (isText (bodyAt s (a .n) which)) =
-    λ which. ap (λ x. not (isText (partOf s (bodySpan x which .at) (bodySpan x which .len)))) (b .bodies-of .ensures)
+    let chain =
+    c .before .before .before .refuse-if3 .ensures ∙ refuse-is _ (c .before .before .before .before .before .refuse-if2 .ensures ∙ refuse-is _ (c .before .before .before .before .before .before .before .refuse-if .ensures) (c .before .before .before .before .before .before .index-above-31 .ensures)) (ap (λ e. not (eqb e (length s))) (c .before .before .before .before .end-of .ensures))
     in
-    c .refuse-if8 .ensures ∙ refuse-is _ (c .before .before .before .before .refuse-if7 .ensures ∙ refuse-is _ (c .before .before .before .before .before .before .refuse-if6 .ensures ∙ refuse-is _ (c .before .before .before .before .before .before .before .before .refuse-if5 .ensures ∙ refuse-is _ (c .before .before .before .before .before .before .before .before .before .before .refuse-if4 .ensures ∙ refuse-is _ (c .before .before .before .before .before .before .before .before .before .before .before .before .refuse-if3 .ensures ∙ refuse-is _ (c .before .before .before .before .before .before .before .before .before .before .before .before .before .before .refuse-if2 .ensures ∙ refuse-is _ (c .before .before .before .before .before .before .before .before .before .before .before .before .before .before .before .before .refuse-if .ensures) (c .before .before .before .before .before .before .before .before .before .before .before .before .before .before .before .index-above-31 .ensures)) (ap (λ e. not (eqb e (length s))) (c .before .before .before .before .before .before .before .before .before .before .before .before .before .end-of .ensures))) (c .before .before .before .before .before .before .before .before .before .before .before .is-malformed .ensures ∙ of Kdf)) (c .before .before .before .before .before .before .before .before .before .is-malformed2 .ensures ∙ of Agreement)) (c .before .before .before .before .before .before .before .is-malformed3 .ensures ∙ of Domain)) (c .before .before .before .before .before .is-malformed4 .ensures ∙ of Forest)) (c .before .breaks-key-rule .ensures)
-    ∙ run-first (layoutChecks s (a .marked) (a .head) (a .n))
+    sym (run-refused (bodyChecks s (a .head) (a .n)) _) ∙ ap (λ o. run o (bodyChecks s (a .head) (a .n))) (sym (c .before .sound .given .1) ∙ chain) ∙ run-first (layoutChecks s (a .marked) (a .head) (a .n))
+
+returns-2 : tie.Need-returns-2
+unfolding layoutChecks run leOf
+returns-2 c = let a = c .before .before .before .before .before .before .before .before .before .before .args in
+    let s = a .s .now in
+    let chain =
+    c .before .before .before .refuse-if3 .ensures ∙ refuse-is _ (c .before .before .before .before .before .refuse-if2 .ensures ∙ refuse-is _ (c .before .before .before .before .before .before .before .refuse-if .ensures) (c .before .before .before .before .before .before .index-above-31 .ensures)) (ap (λ e. not (eqb e (length s))) (c .before .before .before .before .end-of .ensures))
+    in
+    c .judge-bodies .ensures ∙ sym (run-first (bodyChecks s (a .head) (a .n))) ∙ ap (λ o. run o (bodyChecks s (a .head) (a .n))) (sym (c .before .enum-told .given .1) ∙ chain) ∙ run-first (layoutChecks s (a .marked) (a .head) (a .n))
 
 pub judge-spec : {M : Type 1} → statement M
 judge-spec =
@@ -36,17 +37,8 @@ judge-spec =
     (λ c κs. search needs)
     (λ c κs. search needs)
     (λ c κs. search needs)
-    (λ c κs. search needs)
-    (λ c κs. search needs)
-    (λ c κs. search needs)
-    (λ c κs. search needs)
-    (λ c κs. search needs)
-    (λ c κs. search needs)
-    (λ c κs. search needs)
-    (λ c κs. search needs)
-    (λ c κs. search needs)
     (λ c. search needs)
     (λ c. search needs)
     (λ c κs. search needs)
-    (λ c κs. search needs)
-    returns)
+    returns
+    returns-2)

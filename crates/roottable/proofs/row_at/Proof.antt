@@ -1,21 +1,30 @@
--- `row_at`: each field from its place.
-use Rattle.roottable.specs.Rows.{rowAt}
+-- `row_at`: each field from its place in the row's own bytes.
+use Prim.Native.Nat.{_+_, _*_, _≤_}
+use lib.ListN.{length}
+use native.Mathlib.Omega.{arith}
+use denote.Ref.{now}
+use Rattle.roottable.specs.Rows.{rowSize}
+use Rattle.roottable.proofs.Rows.{rowIn, row-in}
 use borrow.Author.Needs.{needs}
 use Rattle.roottable.proofs.row_at.Statement.{statement}
 use Rattle.roottable.proofs.row_at.Tie as tie
 
 returns : tie.Need-returns
-unfolding rowAt
-returns c = rw (← c .before .before .at .ensures, ← c .before .be64-at .ensures, ← c .be64-at2 .ensures)
+unfolding rowIn
+returns c = let a = c .before .before .before .before .before .args in
+    let inside : rowSize * a .row + rowSize ≤ length (now (a .table)) = omega (arith, c .before .before .before .before .before .pre) in
+    rw (← row-in (now (a .table)) (a .row) inside) (λ i. record { id = c .before .before .at .ensures i; starts = record { 0 = c .before .be64-at .ensures i }; created = record { 0 = c .be64-at2 .ensures i } })
 
 pub row-at-spec : {M : Type 1} → statement M
 row-at-spec =
     tie.close
     (tie.spec
     (λ c. search needs)
-    (λ c κs. search needs)
+    (λ c. search needs)
+    (λ c. search needs)
+    (λ c. search needs)
     (λ c. search needs)
     (λ c κs. search needs)
-    (λ c. search needs)
+    (λ c κs. search needs)
     (λ c κs. search needs)
     returns)

@@ -1,0 +1,170 @@
+/* host: a small program that asks Gishwarem three things and prints the answers.
+ *
+ *     cc -std=c99 -I include examples/host.c build/libgishwarem.a -o host
+ *     ./host examples/data/envelope examples/data/table examples/data/cached examples/data/fetched
+ *
+ * It shows an envelope, asks for group keys, and chooses between two envelopes. What it prints for the files kept in
+ * examples/data is in examples/host.stdout. */
+#include <inttypes.h>
+#include <stdio.h>
+#include <stdlib.h>
+
+#include "gishwarem.h"
+
+/* One byte more than a record may have, and more rows than a root table may have: too long a file is seen, and refused. */
+#define MOST_READ 65536u
+
+/* The clock of this example, a FILETIME in (5,3,7): fixed, so that its output is always the same. A host hands in the time. */
+#define CLOCK UINT64_C(1880280000000000)
+
+/* A file's bytes, at most MOST_READ of them. */
+typedef struct bytes {
+    uint8_t data[MOST_READ];
+    size_t len;
+} bytes;
+
+/* Reads a file, or ends the program. */
+static void read_file(const char *name, bytes *into)
+{
+    FILE *file = fopen(name, "rb");
+
+    if (file != NULL)
+        into->len = fread(into->data, 1, sizeof into->data, file);
+    if (file == NULL || ferror(file)) {
+        perror(name);
+        exit(1);
+    }
+    fclose(file);
+}
+
+/* A refusal is an answer like any other: its number is for programs, its text for logs. */
+static void print_refusal(uint32_t refusal)
+{
+    printf("refused %" PRIu32 ": %s\n", refusal, gw_refusal_text(refusal));
+}
+
+static void print_identifier(gw_identifier at)
+{
+    printf("(%" PRIu32 ",%" PRIu32 ",%" PRIu32 ")", at.l0, at.l1, at.l2);
+}
+
+static void print_root(gw_root root)
+{
+    size_t i;
+
+    for (i = 0; i < sizeof root.bytes; i++)
+        printf("%02x", (unsigned)root.bytes[i]);
+}
+
+/* A text of an envelope: 16-bit units, the lower byte first, the last of them zero. What is not printable ASCII is `?`. */
+static void print_text(const uint8_t *text, size_t len)
+{
+    size_t i;
+
+    for (i = 0; i + 2 < len; i += 2)
+        putchar(text[i + 1] == 0 && text[i] >= 0x20 && text[i] <= 0x7e ? text[i] : '?');
+}
+
+static const char *form_word(uint32_t form)
+{
+    switch (form) {
+    case GW_FORM_L1ONLY: return "L1ONLY";
+    case GW_FORM_L2ONLY: return "L2ONLY";
+    case GW_FORM_BOTH: return "BOTH";
+    case GW_FORM_PUBLIC: return "PUBLIC";
+    default: return "NOKEY"; /* GW_FORM_KEYLESS */
+    }
+}
+
+/* How many identifiers are reached: by an envelope's keys, or by the keys that a request is granted. */
+static void print_reach(gw_reach_answer reach)
+{
+    if (reach.refusal != GW_ACCEPTED)
+        print_refusal(reach.refusal);
+    else
+        printf("reaches %" PRIu32 "\n", reach.total);
+}
+
+/* Prints what an envelope shows: on a refusal nothing, as every other field is zero. A part, such as the domain, is a place
+ * in the bytes that were handed in. */
+static gw_envelope_answer show_envelope(const bytes *envelope)
+{
+    gw_envelope_answer answer = gw_envelope_read(envelope->data, envelope->len);
+
+    printf("envelope: ");
+    if (answer.refusal != GW_ACCEPTED) {
+        print_refusal(answer.refusal);
+        return answer;
+    }
+    print_identifier(answer.head.at);
+    printf(" %s, ", form_word(answer.form));
+    print_reach(gw_envelope_reach(envelope->data, envelope->len));
+    printf("root key: ");
+    print_root(answer.head.root);
+    printf("\ndomain: ");
+    print_text(envelope->data + answer.bodies.domain.at, answer.bodies.domain.len);
+    printf("\n");
+    return answer;
+}
+
+/* Asks for a group key by its indices, or for the latest by -1 in all three, under no root key in particular. The verdict
+ * and the rights come from the host's own access check: here they are yes, and seed keys. */
+static gw_decision_answer ask(const bytes *table, int32_t l0, int32_t l1, int32_t l2)
+{
+    gw_request request = {GW_ROOT_NONE, l0, l1, l2, {{0}}};
+    gw_decision_answer answer = gw_decide(GW_VERDICT_IS_YES, GW_RIGHTS_SEED, request, CLOCK, table->data, table->len);
+
+    printf("asked for (%" PRId32 ",%" PRId32 ",%" PRId32 "): ", l0, l1, l2);
+    if (answer.refusal != GW_ACCEPTED) {
+        print_refusal(answer.refusal);
+        return answer;
+    }
+    print_identifier(answer.at);
+    printf(" %s, ", form_word(answer.form));
+    if (answer.granted == GW_GRANTED_CREATE)
+        printf("CREATE, ");
+    else
+        printf("row %zu, ", answer.row);
+    print_reach(gw_form_reach(answer.form, answer.at));
+    return answer;
+}
+
+/* Chooses the key to derive from. Its place is printed, never its bytes: those are secret. */
+static void choose(gw_root root, gw_identifier wanted, const bytes *cached, const bytes *fetched)
+{
+    gw_choice_answer answer = gw_choose(root, wanted, cached->data, cached->len, fetched->data, fetched->len);
+
+    printf("key for ");
+    print_identifier(wanted);
+    printf(": ");
+    if (answer.refusal != GW_ACCEPTED) {
+        print_refusal(answer.refusal);
+        return;
+    }
+    printf("%s envelope, %s key, at %zu, %zu bytes\n", answer.which == GW_CACHED ? "cached" : "fetched",
+           answer.key == GW_KEY_L1 ? "L1" : "L2", answer.place.at, answer.place.len);
+}
+
+int main(int argc, char **argv)
+{
+    static bytes envelope, table, cached, fetched; /* not on the stack: they are large */
+    gw_envelope_answer shown;
+    gw_decision_answer latest;
+
+    if (argc != 5) {
+        fprintf(stderr, "usage: host ENVELOPE TABLE CACHED FETCHED\n");
+        return 1;
+    }
+    read_file(argv[1], &envelope);
+    read_file(argv[2], &table);
+    read_file(argv[3], &cached);
+    read_file(argv[4], &fetched);
+
+    shown = show_envelope(&envelope);
+    latest = ask(&table, -1, -1, -1);
+    ask(&table, 5, 3, 7);
+    ask(&table, 5, 3, 8);
+    if (shown.refusal == GW_ACCEPTED && latest.refusal == GW_ACCEPTED)
+        choose(shown.head.root, latest.at, &cached, &fetched);
+    return 0;
+}

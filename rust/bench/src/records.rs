@@ -1,0 +1,125 @@
+//! Valid records of a wished size, made without the library and without the reference's writers.
+
+/// A little-endian number put into a record.
+pub fn put(record: &mut [u8], at: usize, number: u32) {
+    record[at..at + 4].copy_from_slice(&number.to_le_bytes());
+}
+
+/// A public key item of `len` bytes, which begins with its own length.
+pub fn item(len: usize) -> Vec<u8> {
+    let mut item = vec![7; len];
+    put(&mut item, 0, len as u32);
+    item
+}
+
+/// An entry with an item and a FEK of these lengths, the FEK straight after the item.
+pub fn entry(item_len: usize, fek_len: usize) -> Vec<u8> {
+    let mut entry = vec![0; 20];
+    entry.extend(item(item_len));
+    entry.extend(vec![9; fek_len]);
+    let len = entry.len() as u32;
+    for (at, number) in [
+        (0, len),
+        (4, 20),
+        (8, fek_len as u32),
+        (12, 20 + item_len as u32),
+        (16, 1),
+    ] {
+        put(&mut entry, at, number);
+    }
+    entry
+}
+
+/// A list of `count` of the least entries, 25 bytes each.
+pub fn list(count: usize) -> Vec<u8> {
+    let mut list = (count as u32).to_le_bytes().to_vec();
+    (0..count).for_each(|_| list.extend(entry(4, 1)));
+    list
+}
+
+/// A SID with five sub-authorities.
+pub const SID: [u8; 28] = {
+    let mut sid = [3; 28];
+    sid[0] = 1;
+    sid[1] = 5;
+    sid
+};
+
+/// An EfsKey with a SID and a certificate of this length.
+pub fn efskey(certificate_len: usize) -> Vec<u8> {
+    let mut key = vec![0; 32];
+    key.extend(SID);
+    key.extend(vec![5; certificate_len]);
+    let len = key.len() as u32;
+    let numbers = [
+        (0, len),
+        (4, len - 4),
+        (8, 28),
+        (12, 2),
+        (16, certificate_len as u32),
+        (20, 28 + SID.len() as u32),
+    ];
+    for (at, number) in numbers {
+        put(&mut key, at, number);
+    }
+    key
+}
+
+/// A text of `units` 16-bit units, the last of them zero.
+pub fn text(units: usize) -> Vec<u8> {
+    let mut text = vec![b'a', 0].repeat(units - 1);
+    text.extend([0, 0]);
+    text
+}
+
+/// The root key identifier of every envelope and of a table's last row.
+pub const ROOT: [u8; 16] = *b"the root key id.";
+
+/// The eight bodies of an envelope: KDF, parameters, agreement, parameters, domain, forest, L1 key, L2 key.
+pub type Bodies = [Vec<u8>; 8];
+
+/// The bodies of an envelope with both keys and four texts of `units` units, and with none of the keys where `units` is 1.
+pub fn bodies(units: usize) -> Bodies {
+    let key = if units == 1 { vec![] } else { vec![6; 64] };
+    [
+        text(units),
+        vec![],
+        text(units),
+        vec![],
+        text(units),
+        text(units),
+        key.clone(),
+        key,
+    ]
+}
+
+/// A seed envelope of those bodies at (5, 3, 7).
+pub fn envelope(bodies: &Bodies) -> Vec<u8> {
+    let mut envelope = vec![0; 80];
+    envelope[4..8].copy_from_slice(b"KDSK");
+    for (at, number) in [(0, 1), (12, 5), (16, 3), (20, 7)] {
+        put(&mut envelope, at, number);
+    }
+    envelope[24..40].copy_from_slice(&ROOT);
+    for (at, body) in [40, 44, 48, 52, 72, 76, 64, 68].into_iter().zip(bodies) {
+        put(&mut envelope, at, body.len() as u32);
+    }
+    bodies.iter().for_each(|body| envelope.extend(body));
+    envelope
+}
+
+/// A root table of `rows` rows, in use since 0, each created later than the one before it; the last has `ROOT`.
+pub fn table(rows: usize) -> Vec<u8> {
+    let mut table = vec![];
+    for row in 0..rows {
+        let id = if row + 1 == rows {
+            ROOT
+        } else {
+            [row as u8; 16]
+        };
+        table.extend(id);
+        table.extend(0u64.to_be_bytes());
+        table.extend((row as u64).to_be_bytes());
+    }
+    table
+}

@@ -1,0 +1,180 @@
+//! The questions that the library answers, asked with lent bytes.
+
+use gishwarem::raw::{
+    self, ChoiceAnswer, DecisionAnswer, EfsKeyAnswer, EntryAnswer, EnvelopeAnswer, Head,
+    Identifier, IdentifierAnswer, ListAnswer, ReachAnswer, Request, Root, StartAnswer, StepAnswer,
+    WrittenAnswer,
+};
+
+use crate::lent::{lend, Output};
+use crate::rng::Rng;
+
+// SAFETY, of every question here: `lend` and `Output` own the bytes behind each pointer for the length of the call, and
+// no two of them share a byte.
+
+/// Reads an entry.
+pub fn entry_read(rng: &mut Rng, entry: &[u8]) -> EntryAnswer {
+    lend(rng, [entry], |[entry]| unsafe {
+        raw::gw_entry_read(entry.start, entry.len)
+    })
+}
+
+/// Writes an entry.
+pub fn entry_write(
+    rng: &mut Rng,
+    out: &mut Output,
+    flags: u32,
+    item: &[u8],
+    fek: &[u8],
+) -> WrittenAnswer {
+    let (start, room) = (out.start(), out.room());
+    lend(rng, [item, fek], |[item, fek]| unsafe {
+        raw::gw_entry_write(start, room, flags, item.start, item.len, fek.start, fek.len)
+    })
+}
+
+/// Judges a list.
+pub fn list_judge(rng: &mut Rng, list: &[u8]) -> ListAnswer {
+    lend(rng, [list], |[list]| unsafe {
+        raw::gw_list_judge(list.start, list.len)
+    })
+}
+
+/// Takes one step of a list's walk.
+pub fn list_step(rng: &mut Rng, list: &[u8], at: usize, index: u32) -> StepAnswer {
+    lend(rng, [list], |[list]| unsafe {
+        raw::gw_list_step(list.start, list.len, at, index)
+    })
+}
+
+/// Reads an EfsKey.
+pub fn efskey_read(rng: &mut Rng, key: &[u8]) -> EfsKeyAnswer {
+    lend(rng, [key], |[key]| unsafe {
+        raw::gw_efskey_read(key.start, key.len)
+    })
+}
+
+/// Writes an EfsKey.
+pub fn efskey_write(
+    rng: &mut Rng,
+    out: &mut Output,
+    sid: &[u8],
+    certificate: &[u8],
+) -> WrittenAnswer {
+    let (start, room) = (out.start(), out.room());
+    lend(rng, [sid, certificate], |[sid, certificate]| unsafe {
+        raw::gw_efskey_write(
+            start,
+            room,
+            sid.start,
+            sid.len,
+            certificate.start,
+            certificate.len,
+        )
+    })
+}
+
+/// Reads an envelope.
+pub fn envelope_read(rng: &mut Rng, envelope: &[u8]) -> EnvelopeAnswer {
+    lend(rng, [envelope], |[envelope]| unsafe {
+        raw::gw_envelope_read(envelope.start, envelope.len)
+    })
+}
+
+/// Writes an envelope from its head and its bodies in their order.
+pub fn envelope_write(
+    rng: &mut Rng,
+    out: &mut Output,
+    head: Head,
+    bodies: [&[u8]; 8],
+) -> WrittenAnswer {
+    let (start, room) = (out.start(), out.room());
+    lend(
+        rng,
+        bodies,
+        |[kdf, kdf_parameters, agreement, agreement_parameters, domain, forest, l1_key, l2_key]| unsafe {
+            raw::gw_envelope_write(
+                start,
+                room,
+                head,
+                kdf.start,
+                kdf.len,
+                kdf_parameters.start,
+                kdf_parameters.len,
+                agreement.start,
+                agreement.len,
+                agreement_parameters.start,
+                agreement_parameters.len,
+                domain.start,
+                domain.len,
+                forest.start,
+                forest.len,
+                l1_key.start,
+                l1_key.len,
+                l2_key.start,
+                l2_key.len,
+            )
+        },
+    )
+}
+
+/// The reach of an envelope.
+pub fn envelope_reach(rng: &mut Rng, envelope: &[u8]) -> ReachAnswer {
+    lend(rng, [envelope], |[envelope]| unsafe {
+        raw::gw_envelope_reach(envelope.start, envelope.len)
+    })
+}
+
+/// The reach of a form.
+pub fn form_reach(form: u32, at: Identifier) -> ReachAnswer {
+    unsafe { raw::gw_form_reach(form, at) }
+}
+
+/// The identifier of a reading.
+pub fn time_identifier(time: u64) -> IdentifierAnswer {
+    unsafe { raw::gw_time_identifier(time) }
+}
+
+/// The start of an identifier.
+pub fn identifier_start(at: Identifier) -> StartAnswer {
+    unsafe { raw::gw_identifier_start(at) }
+}
+
+/// The next older identifier.
+pub fn identifier_older(at: Identifier) -> IdentifierAnswer {
+    unsafe { raw::gw_identifier_older(at) }
+}
+
+/// The GetKey decision.
+pub fn decide(
+    rng: &mut Rng,
+    verdict: u32,
+    rights: u32,
+    request: Request,
+    clock: u64,
+    table: &[u8],
+) -> DecisionAnswer {
+    lend(rng, [table], |[table]| unsafe {
+        raw::gw_decide(verdict, rights, request, clock, table.start, table.len)
+    })
+}
+
+/// The choice between two envelopes.
+pub fn choose(
+    rng: &mut Rng,
+    root: Root,
+    wanted: Identifier,
+    cached: &[u8],
+    fetched: &[u8],
+) -> ChoiceAnswer {
+    lend(rng, [cached, fetched], |[cached, fetched]| unsafe {
+        raw::gw_choose(
+            root,
+            wanted,
+            cached.start,
+            cached.len,
+            fetched.start,
+            fetched.len,
+        )
+    })
+}

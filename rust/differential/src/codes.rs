@@ -1,0 +1,58 @@
+//! The codes of the C face, as its header lists them.
+
+/// Flags 0.
+pub const ALGORITHM_RSA: u32 = 1;
+/// Flags 1.
+pub const ALGORITHM_AES256: u32 = 2;
+/// Any other Flags.
+pub const ALGORITHM_UNSUPPORTED: u32 = 3;
+
+/// A step of a walk finds an entry.
+pub const STEP_ENTRY: u32 = 1;
+/// A step of a walk finds the end of the list.
+pub const STEP_END: u32 = 2;
+
+/// An EfsKey without a SID.
+pub const SID_NONE: u32 = 0;
+/// An EfsKey with a SID.
+pub const SID_GIVEN: u32 = 1;
+
+/// No key.
+pub const FORM_KEYLESS: u32 = 0;
+/// An L1 seed key.
+pub const FORM_L1ONLY: u32 = 1;
+/// An L2 seed key.
+pub const FORM_L2ONLY: u32 = 2;
+/// An L1 and an L2 seed key.
+pub const FORM_BOTH: u32 = 3;
+/// A public key.
+pub const FORM_PUBLIC: u32 = 4;
+
+/// No rights.
+pub const RIGHTS_NONE: u32 = 0;
+/// Rights to public keys.
+pub const RIGHTS_PUBLIC: u32 = 1;
+/// Rights to seed keys.
+pub const RIGHTS_SEED: u32 = 2;
+
+/// The verdict yes.
+pub const VERDICT_IS_YES: u32 = 1;
+
+/// No root key is named.
+pub const ROOT_NONE: u32 = 0;
+/// A root key is named.
+pub const ROOT_GIVEN: u32 = 1;
+
+/// A key under a row of the root table.
+pub const GRANTED_ROW: u32 = 1;
+/// A key under a root key that is yet to be created.
+pub const GRANTED_CREATE: u32 = 2;
+
+/// The cached envelope serves.
+pub const CACHED: u32 = 1;
+/// The fetched envelope serves.
+pub const FETCHED: u32 = 2;
+/// It serves by its L1 key.
+pub const KEY_L1: u32 = 1;
+/// It serves by its L2 key.
+pub const KEY_L2: u32 = 2;

@@ -1,0 +1,367 @@
+//! What the reference answers, in the library's own structs: the refusal's number, and zeros beside it.
+
+use gishwarem::raw::{
+    Bodies, ChoiceAnswer, DecisionAnswer, EfsKeyAnswer, EntryAnswer, EnvelopeAnswer, Head,
+    Identifier, IdentifierAnswer, ListAnswer, Part, ReachAnswer, Request, Root, StartAnswer,
+    StepAnswer, WrittenAnswer,
+};
+use reference::choice::{self, Key, Which};
+use reference::decision::{self, Rights, Row};
+use reference::entry::Algorithm;
+use reference::list::Step;
+use reference::reach::{self, Form, Reach};
+use reference::time::{self, Gkid};
+use reference::{efskey, entry, envelope, list};
+
+use crate::codes;
+
+/// The answer to a refusal: its number, and zeros.
+macro_rules! refused {
+    ($answer:ident, $number:expr) => {
+        $answer {
+            refusal: $number,
+            ..Default::default()
+        }
+    };
+}
+
+fn part(part: reference::Part) -> Part {
+    Part {
+        at: part.at,
+        len: part.len,
+    }
+}
+
+fn identifier(id: Gkid) -> Identifier {
+    Identifier {
+        l0: id.l0,
+        l1: id.l1,
+        l2: id.l2,
+    }
+}
+
+fn gkid(id: Identifier) -> Gkid {
+    Gkid {
+        l0: id.l0,
+        l1: id.l1,
+        l2: id.l2,
+    }
+}
+
+fn algorithm(algorithm: Algorithm) -> u32 {
+    match algorithm {
+        Algorithm::Rsa => codes::ALGORITHM_RSA,
+        Algorithm::Aes256 => codes::ALGORITHM_AES256,
+        Algorithm::Unsupported => codes::ALGORITHM_UNSUPPORTED,
+    }
+}
+
+fn form_code(form: Form) -> u32 {
+    match form {
+        Form::Keyless => codes::FORM_KEYLESS,
+        Form::L1Only => codes::FORM_L1ONLY,
+        Form::L2Only => codes::FORM_L2ONLY,
+        Form::Both => codes::FORM_BOTH,
+        Form::Public => codes::FORM_PUBLIC,
+    }
+}
+
+/// The form of a code; one that isn't listed is the weakest.
+fn form(code: u32) -> Form {
+    match code {
+        codes::FORM_L1ONLY => Form::L1Only,
+        codes::FORM_L2ONLY => Form::L2Only,
+        codes::FORM_BOTH => Form::Both,
+        codes::FORM_PUBLIC => Form::Public,
+        _ => Form::Keyless,
+    }
+}
+
+/// The rights of a code; one that isn't listed is the weakest.
+fn rights(code: u32) -> Rights {
+    match code {
+        codes::RIGHTS_PUBLIC => Rights::Public,
+        codes::RIGHTS_SEED => Rights::Seed,
+        _ => Rights::None,
+    }
+}
+
+/// Reads an entry.
+pub fn entry_read(bytes: &[u8]) -> EntryAnswer {
+    match entry::read(bytes) {
+        Ok(entry) => EntryAnswer {
+            refusal: 0,
+            algorithm: algorithm(entry.algorithm),
+            flags: entry.flags,
+            reserved: 0,
+            item: part(entry.item),
+            fek: part(entry.fek),
+        },
+        Err(number) => refused!(EntryAnswer, number),
+    }
+}
+
+/// A writer's answer and its record, which is empty on a refusal.
+fn written(
+    room: usize,
+    write: impl FnOnce(&mut [u8]) -> Result<usize, u32>,
+) -> (WrittenAnswer, Vec<u8>) {
+    let mut record = vec![0x5C; room];
+    let (refusal, len) = match write(&mut record) {
+        Ok(len) => (0, len),
+        Err(number) => (number, 0),
+    };
+    record.truncate(len);
+    let answer = WrittenAnswer {
+        refusal,
+        reserved: 0,
+        len,
+    };
+    (answer, record)
+}
+
+/// Writes an entry.
+pub fn entry_write(room: usize, flags: u32, item: &[u8], fek: &[u8]) -> (WrittenAnswer, Vec<u8>) {
+    written(room, |out| entry::write(out, flags, item, fek))
+}
+
+/// Judges a list. A refusal that is given for an entry tells the entry's index.
+pub fn list_judge(bytes: &[u8]) -> ListAnswer {
+    match list::judge(bytes) {
+        Ok(count) => ListAnswer {
+            refusal: 0,
+            count,
+            index: 0,
+        },
+        Err(refused) => ListAnswer {
+            refusal: refused.number,
+            count: 0,
+            index: refused.index,
+        },
+    }
+}
+
+/// Takes one step of a list's walk. A refusal that is given for an entry tells the entry's index; the end keeps the
+/// place.
+pub fn list_step(bytes: &[u8], place: usize, number: u32) -> StepAnswer {
+    match list::step(bytes, place, number) {
+        Ok(Step::Entry {
+            index,
+            at,
+            entry,
+            next_at,
+            next_index,
+        }) => StepAnswer {
+            refusal: 0,
+            found: codes::STEP_ENTRY,
+            index,
+            algorithm: algorithm(entry.algorithm),
+            flags: entry.flags,
+            next_index,
+            next_at,
+            at,
+            item: part(entry.item),
+            fek: part(entry.fek),
+        },
+        Ok(Step::End) => StepAnswer {
+            found: codes::STEP_END,
+            next_index: number,
+            next_at: place,
+            ..Default::default()
+        },
+        Err(refused) => StepAnswer {
+            refusal: refused.number,
+            index: refused.index,
+            ..Default::default()
+        },
+    }
+}
+
+/// Reads an EfsKey.
+pub fn efskey_read(bytes: &[u8]) -> EfsKeyAnswer {
+    match efskey::read(bytes) {
+        Ok(key) => EfsKeyAnswer {
+            refusal: 0,
+            kind: if key.sid.is_some() {
+                codes::SID_GIVEN
+            } else {
+                codes::SID_NONE
+            },
+            sid: key.sid.map_or(Part::default(), part),
+            certificate: part(key.certificate),
+        },
+        Err(number) => refused!(EfsKeyAnswer, number),
+    }
+}
+
+/// Writes an EfsKey.
+pub fn efskey_write(room: usize, sid: &[u8], certificate: &[u8]) -> (WrittenAnswer, Vec<u8>) {
+    written(room, |out| efskey::write(out, sid, certificate))
+}
+
+/// Reads an envelope; its form goes by the keys present.
+pub fn envelope_read(bytes: &[u8]) -> EnvelopeAnswer {
+    match envelope::read(bytes).and_then(|read| Ok((read, reach::of_envelope(bytes)?))) {
+        Ok((read, reach)) => EnvelopeAnswer {
+            refusal: 0,
+            form: form_code(reach.form),
+            // "Bit 31 (LSB)" of dwFlags has the value 1: public.
+            is_public: read.head.flags & 1,
+            head: Head {
+                version: read.head.version,
+                flags: read.head.flags,
+                at: identifier(read.head.at),
+                root: Root {
+                    bytes: read.head.root,
+                },
+                private_length: read.head.private_length,
+                public_length: read.head.public_length,
+            },
+            bodies: Bodies {
+                kdf: part(read.kdf),
+                kdf_parameters: part(read.kdf_parameters),
+                agreement: part(read.agreement),
+                agreement_parameters: part(read.agreement_parameters),
+                domain: part(read.domain),
+                forest: part(read.forest),
+                l1_key: part(read.l1_key),
+                l2_key: part(read.l2_key),
+            },
+        },
+        Err(number) => refused!(EnvelopeAnswer, number),
+    }
+}
+
+/// Writes an envelope from its head and its bodies in their order.
+pub fn envelope_write(room: usize, head: &Head, bodies: [&[u8]; 8]) -> (WrittenAnswer, Vec<u8>) {
+    let head = envelope::Head {
+        version: head.version,
+        flags: head.flags,
+        at: gkid(head.at),
+        root: head.root.bytes,
+        private_length: head.private_length,
+        public_length: head.public_length,
+    };
+    let [kdf, kdf_parameters, agreement, agreement_parameters, domain, forest, l1_key, l2_key] =
+        bodies;
+    let bodies = envelope::Bodies {
+        kdf,
+        kdf_parameters,
+        agreement,
+        agreement_parameters,
+        domain,
+        forest,
+        l1_key,
+        l2_key,
+    };
+    written(room, |out| envelope::write(out, &head, &bodies))
+}
+
+fn reached(reach: Result<Reach, u32>) -> ReachAnswer {
+    match reach {
+        Ok(reach) => ReachAnswer {
+            refusal: 0,
+            total: reach.total,
+            rows: reach.rows,
+        },
+        Err(number) => refused!(ReachAnswer, number),
+    }
+}
+
+/// The reach of an envelope.
+pub fn envelope_reach(bytes: &[u8]) -> ReachAnswer {
+    reached(reach::of_envelope(bytes))
+}
+
+/// The reach of a form.
+pub fn form_reach(code: u32, at: Identifier) -> ReachAnswer {
+    reached(reach::of_form(form(code), gkid(at)))
+}
+
+fn found(id: Gkid) -> IdentifierAnswer {
+    IdentifierAnswer {
+        refusal: 0,
+        found: 1,
+        at: identifier(id),
+    }
+}
+
+/// The identifier of a reading.
+pub fn time_identifier(reading: u64) -> IdentifierAnswer {
+    found(time::at(reading))
+}
+
+/// The start of an identifier.
+pub fn identifier_start(at: Identifier) -> StartAnswer {
+    match time::start(gkid(at)) {
+        Ok(time) => StartAnswer {
+            refusal: 0,
+            reserved: 0,
+            time,
+        },
+        Err(number) => refused!(StartAnswer, number),
+    }
+}
+
+/// The next older identifier; zeros stand beside none.
+pub fn identifier_older(at: Identifier) -> IdentifierAnswer {
+    match time::older(gkid(at)) {
+        Ok(Some(id)) => found(id),
+        Ok(None) => IdentifierAnswer::default(),
+        Err(number) => refused!(IdentifierAnswer, number),
+    }
+}
+
+/// The GetKey decision. A verdict or a root's code that isn't listed is the weakest: no, and none.
+pub fn decide(
+    verdict: u32,
+    rights_code: u32,
+    request: &Request,
+    clock: u64,
+    table: &[u8],
+) -> DecisionAnswer {
+    let given = request.root_given == codes::ROOT_GIVEN;
+    let asked = decision::Request {
+        root: given.then_some(request.root.bytes),
+        l0: request.l0,
+        l1: request.l1,
+        l2: request.l2,
+    };
+    let is_yes = verdict == codes::VERDICT_IS_YES;
+    match decision::decide(is_yes, rights(rights_code), &asked, clock, table) {
+        Ok(answer) => {
+            let (granted, row) = match answer.row {
+                Row::Place(row) => (codes::GRANTED_ROW, row),
+                Row::Create => (codes::GRANTED_CREATE, 0),
+            };
+            DecisionAnswer {
+                refusal: 0,
+                granted,
+                form: form_code(answer.form),
+                at: identifier(answer.at),
+                row,
+            }
+        }
+        Err(number) => refused!(DecisionAnswer, number),
+    }
+}
+
+/// The choice between two envelopes.
+pub fn choose(root: &Root, wanted: Identifier, cached: &[u8], fetched: &[u8]) -> ChoiceAnswer {
+    match choice::choose(&root.bytes, gkid(wanted), cached, fetched) {
+        Ok(choice) => ChoiceAnswer {
+            refusal: 0,
+            which: match choice.which {
+                Which::Cached => codes::CACHED,
+                Which::Fetched => codes::FETCHED,
+            },
+            key: match choice.key {
+                Key::L1 => codes::KEY_L1,
+                Key::L2 => codes::KEY_L2,
+            },
+            reserved: 0,
+            place: part(choice.part),
+        },
+        Err(number) => refused!(ChoiceAnswer, number),
+    }
+}

@@ -1,0 +1,48 @@
+//! Properties of the built library: demand 3, round trips, the walk, the choice by the reach, the time rule.
+
+use differential::properties::{round_trips, serving, steps, waiting, walk};
+
+#[test]
+fn waiting_loses_nothing() {
+    waiting::WAITING.check();
+}
+
+#[test]
+fn entry_written_then_read() {
+    round_trips::ENTRY.check();
+}
+
+#[test]
+fn efskey_written_then_read() {
+    round_trips::EFSKEY_WRITTEN.check();
+}
+
+#[test]
+fn efskey_read_then_written() {
+    round_trips::EFSKEY_READ.check();
+}
+
+#[test]
+fn envelope_written_then_read() {
+    round_trips::ENVELOPE_WRITTEN.check();
+}
+
+#[test]
+fn envelope_read_then_written() {
+    round_trips::ENVELOPE_READ.check();
+}
+
+#[test]
+fn list_walked() {
+    walk::WALK.check();
+}
+
+#[test]
+fn choice_by_the_reach() {
+    serving::SERVING.check();
+}
+
+#[test]
+fn readings_and_steps() {
+    steps::STEPS.check();
+}

@@ -1,0 +1,77 @@
+//! Key records of encrypted files, group key envelopes and the GetKey decision.
+//!
+//! Each function makes one call into the library and lays its answer out: a refusal is an `Err`,
+//! and a part is a slice of the caller's own bytes. Nothing is kept between calls, nothing is
+//! allocated, and any bytes and numbers get an answer.
+//!
+//! | subject | here |
+//! |---|---|
+//! | Key List Entry (MS-EFSR 2.2.2.1.2) | [`Entry`] |
+//! | a list of entries | [`List`], judged whole; [`Walk`], entry by entry |
+//! | EfsKey (MS-GPEF 2.2.1.2.2) | [`EfsKey`] |
+//! | Group Key Envelope (MS-GKDI 2.2.4) | [`Envelope`] |
+//! | time and identifiers | [`FileTime`], [`Gkid`], [`RootId`] |
+//! | the GetKey decision (MS-GKDI 3.1.4.1) | [`decide`] |
+//! | what keys reach | [`Reach`] |
+//! | a cached and a fetched envelope | [`serving_key`] |
+//!
+//! The C face itself is in [`raw`].
+//!
+//! ```
+//! use gishwarem::{decide, FileTime, Form, Gkid, Reach, Request, Rights, RootId};
+//!
+//! // A root table of one row: its identifier, its use-start time and its create time.
+//! let root = RootId([7; 16]);
+//! let mut table = [0; 32];
+//! table[..16].copy_from_slice(&root.0);
+//!
+//! // In L0 group 5, (5, 0, 0) is asked for at (5, 3, 7): the answer is now's key, in both parts.
+//! let request = Request::named(Some(root), 5, 0, 0);
+//! let clock = FileTime(1_880_280_000_000_000);
+//! let answer = decide(true, Rights::Seed, &request, clock, &table)?;
+//! assert_eq!(answer.at, Gkid { l0: 5, l1: 3, l2: 7 });
+//! assert_eq!(answer.form, Form::Both);
+//!
+//! // It reaches all of rows 0 to 2, and L2 indices 0 to 7 of row 3.
+//! assert_eq!(Reach::of_form(answer.form, answer.at)?.total, 3 * 32 + 8);
+//! # Ok::<(), gishwarem::Refusal>(())
+//! ```
+
+#![deny(missing_docs)]
+#![deny(unsafe_code)]
+#![deny(unsafe_op_in_unsafe_fn)]
+
+mod answer;
+#[allow(unsafe_code)]
+mod calls;
+mod decision;
+mod efskey;
+mod entry;
+mod envelope;
+mod form;
+mod gkid;
+mod list;
+pub mod raw;
+mod reach;
+mod refusal;
+mod request;
+mod rootid;
+mod secret;
+mod serving;
+mod time;
+mod walk;
+
+pub use decision::{decide, Answer, Rights, Row};
+pub use efskey::EfsKey;
+pub use entry::{Algorithm, Entry};
+pub use envelope::{Bodies, Envelope, Head};
+pub use form::Form;
+pub use gkid::Gkid;
+pub use list::{Entries, List};
+pub use reach::Reach;
+pub use refusal::{ListRefusal, Refusal};
+pub use request::Request;
+pub use rootid::RootId;
+pub use serving::{serving_key, SeedKey, ServingKey, Source};
+pub use time::FileTime;
+pub use walk::{ListEntry, Walk};
