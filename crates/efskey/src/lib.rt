@@ -116,20 +116,28 @@ impl Head {
     fn judge(self, len: usize, sound: bool) -> Outcome
         ensures { λ r. ⌜ r ≡ firstOf (headChecks len self sound) ⌝ }
     {
+        if self.lengths_disagree(len) {
+            return Outcome::Refused(Refusal::LengthsDisagree);
+        }
+        if self.reserved1 != 2 {
+            return Outcome::Refused(Refusal::WrongMark);
+        }
+        if self.certificate_length == 0 {
+            return Outcome::Refused(Refusal::EmptyItem);
+        }
+        if self.certificate_misplaced() {
+            return Outcome::Refused(Refusal::Misplaced);
+        }
+        if (self.sid_offset != 0) & (self.sid_offset != 28) {
+            return Outcome::Refused(Refusal::Misplaced);
+        }
+        if (self.sid_offset == 0) & (self.certificate_offset != 28) {
+            return Outcome::Refused(Refusal::Misplaced);
+        }
+        if (self.sid_offset == 28) & !sound {
+            return Outcome::Refused(Refusal::MalformedSid);
+        }
         Outcome::Accepted
-            .refuse_if(self.lengths_disagree(len), Refusal::LengthsDisagree)
-            .refuse_if(self.reserved1 != 2, Refusal::WrongMark)
-            .refuse_if(self.certificate_length == 0, Refusal::EmptyItem)
-            .refuse_if(self.certificate_misplaced(), Refusal::Misplaced)
-            .refuse_if(
-                (self.sid_offset != 0) & (self.sid_offset != 28),
-                Refusal::Misplaced,
-            )
-            .refuse_if(
-                (self.sid_offset == 0) & (self.certificate_offset != 28),
-                Refusal::Misplaced,
-            )
-            .refuse_if((self.sid_offset == 28) & !sound, Refusal::MalformedSid)
     }
 
     // The SID area, from 32 to the certificate, has this many bytes.

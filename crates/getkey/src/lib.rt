@@ -61,16 +61,25 @@ pub fn decide(
 fn judge(verdict: bool, rights: Rights, request: Request, present: Gkid, len: usize) -> Outcome
     ensures { λ r. ⌜ r ≡ firstOf (checks verdict rights request present len) ⌝ }
 {
+    if !verdict {
+        return Outcome::Refused(Refusal::VerdictNo);
+    }
+    if request.out_of_range() {
+        return Outcome::Refused(Refusal::IndexOutOfRange);
+    }
+    if request.is_mixed() {
+        return Outcome::Refused(Refusal::MixedIndices);
+    }
+    if request.is_later_than(present) {
+        return Outcome::Refused(Refusal::LaterThanNow);
+    }
+    if rights.are_too_low(request.names_one()) {
+        return Outcome::Refused(Refusal::RightsTooLow);
+    }
+    if is_table_wrong(len) {
+        return Outcome::Refused(Refusal::TableLength);
+    }
     Outcome::Accepted
-        .refuse_if(!verdict, Refusal::VerdictNo)
-        .refuse_if(request.out_of_range(), Refusal::IndexOutOfRange)
-        .refuse_if(request.is_mixed(), Refusal::MixedIndices)
-        .refuse_if(request.is_later_than(present), Refusal::LaterThanNow)
-        .refuse_if(
-            rights.are_too_low(request.names_one()),
-            Refusal::RightsTooLow,
-        )
-        .refuse_if(is_table_wrong(len), Refusal::TableLength)
 }
 
 // What is granted once 16 to 20 are ruled out.
