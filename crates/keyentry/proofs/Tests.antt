@@ -1,10 +1,11 @@
 -- Laws of the layout's tests: each fails exactly where the plain fact holds.
-use Prim.Native.Nat.{ℕ, _+_, _≤_}
+use Prim.Native.Nat.{ℕ, _+_, _-_, _≤_, _<_, min, max}
+use native.Mathlib.Omega.{arith}
 use mathlib.Core.Bool.{true, false, not, _||_}
 use mathlib.Core.Logic.{_⊎_, inl, inr}
-use mathlib.Core.Path.{_≡_, refl, ap}
-use lib.Dec.{leb}
-use borrow.Author.Tests.{ltb-false, le-ltb, le-leb, leb-true}
+use mathlib.Core.Path.{_≡_, refl, ap, _∙_}
+use lib.Dec.{ltb, leb}
+use borrow.Author.Tests.{ltb-true, ltb-false, lt-ltb, le-ltb, le-leb, leb-true}
 use Rattle.refusal.proofs.Cases.{by-cases, or-false, false-or, not-false}
 use Rattle.keyentry.specs.Layout.{outside, overlap, runBefore, runBetween, runAfter, longRun}
 
@@ -42,3 +43,26 @@ short-runs p n f e L h =
 pub no-long-run : (p n f e L : ℕ) → runBefore p f ≤ 8 → runBetween p n f e ≤ 8 → runAfter p n f e L ≤ 8 → longRun p n f e L ≡ false
 unfolding longRun
 no-long-run p n f e L a b c = false-or (le-ltb 8 _ a) (false-or (le-ltb 8 _ b) (le-ltb 8 _ c))
+
+-- one long run is enough
+pub long-before : (p n f e L : ℕ) → 28 < min p f → longRun p n f e L ≡ true
+unfolding longRun
+long-before p n f e L h = rw (lt-ltb 8 (runBefore p f) (omega arith))
+
+pub long-between : (p n f e L : ℕ) → 8 < runBetween p n f e → longRun p n f e L ≡ true
+unfolding longRun
+long-between p n f e L h = rw (lt-ltb 8 (runBetween p n f e) h) (by-cases (λ t. t || true ≡ true) (ltb 8 (runBefore p f)) (λ _. refl) (λ _. refl))
+
+-- the last run decides where the others are short; m stands 8 bytes past the last end
+past-end : (a b : ℕ) → max (a + 8) (b + 8) ≡ max a b + 8
+past-end a b = omega arith
+
+run-to : (x m L : ℕ) → m ≡ x + 8 → ltb 8 (L - x) ≡ ltb m L
+run-to x m L e =
+    by-cases (λ t. ltb 8 (L - x) ≡ t) (ltb m L)
+    (λ q. lt-ltb 8 (L - x) (omega (arith, ltb-true m L q)))
+    (λ q. le-ltb 8 (L - x) (omega (arith, ltb-false m L q)))
+
+pub last-run : (p n f e L m : ℕ) → min p f ≤ 28 → runBetween p n f e ≤ 8 → m ≡ max (p + n + 8) (f + e + 8) → longRun p n f e L ≡ ltb m L
+unfolding longRun
+last-run p n f e L m a b past = rw (le-ltb 8 (runBefore p f) (omega arith), le-ltb 8 (runBetween p n f e) b) (run-to (max (p + n) (f + e)) m L (past ∙ past-end (p + n) (f + e)))

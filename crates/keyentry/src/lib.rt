@@ -1,8 +1,7 @@
 // Document 01, "Key List Entry and list": the Key List Entry (MS-EFSR 2.2.2.1.2), read and written.
 ghost use mathlib.Core.Path.{_≡_};
-ghost use Prim.Native.Nat.{_+_, _-_, _≤_, min, max};
+ghost use Prim.Native.Nat.{_+_, _≤_, min, max};
 ghost use mathlib.Core.Bool.{_||_};
-ghost use lib.Dec.{ltb};
 ghost use lib.ListN.{length};
 ghost use Rattle.refusal.specs.Chain.{firstOf};
 ghost use Rattle.wire.specs.Parts.{startOf, onto};
@@ -94,15 +93,31 @@ pub fn read(s: &[u8]) -> EntryRead
 fn judge(len: usize, field: u32, p: u32, n: u32, f: u32, e: u32) -> Outcome
     ensures { λ r. ⌜ r ≡ firstOf (layoutChecks len field p n f e) ⌝ }
 {
+    if field as usize != len {
+        return Outcome::Refused(Refusal::LengthsDisagree);
+    }
+    if is_outside(p, 4, len) {
+        return Outcome::Refused(Refusal::Misplaced);
+    }
+    if n < 4 {
+        return Outcome::Refused(Refusal::EmptyItem);
+    }
+    if len < p as usize + n as usize {
+        return Outcome::Refused(Refusal::Misplaced);
+    }
+    if e == 0 {
+        return Outcome::Refused(Refusal::EmptyItem);
+    }
+    if is_outside(f, e, len) {
+        return Outcome::Refused(Refusal::Misplaced);
+    }
+    if do_overlap(p, n, f, e) {
+        return Outcome::Refused(Refusal::Overlap);
+    }
+    if has_long_run(p, n, f, e, len) {
+        return Outcome::Refused(Refusal::UnusedRun);
+    }
     Outcome::Accepted
-        .refuse_if(field as usize != len, Refusal::LengthsDisagree)
-        .refuse_if(is_outside(p, 4, len), Refusal::Misplaced)
-        .refuse_if(n < 4, Refusal::EmptyItem)
-        .refuse_if(len < p as usize + n as usize, Refusal::Misplaced)
-        .refuse_if(e == 0, Refusal::EmptyItem)
-        .refuse_if(is_outside(f, e, len), Refusal::Misplaced)
-        .refuse_if(do_overlap(p, n, f, e), Refusal::Overlap)
-        .refuse_if(has_long_run(p, n, f, e, len), Refusal::UnusedRun)
 }
 
 // An item of n bytes at p does not lie in the Data Fields of an entry of len bytes.
@@ -121,26 +136,22 @@ fn do_overlap(p: u32, n: u32, f: u32, e: u32) -> bool
     )
 }
 
-// Before, between or after the two items more than 8 bytes are unused.
+// Before, between or after the two items more than 8 bytes are unused. `item` and `fek` stand 8 bytes past their ends.
 fn has_long_run(p: u32, n: u32, f: u32, e: u32, len: usize) -> bool
     ensures { λ r. ⌜ r ≡ longRun p n f e len ⌝ }
 {
-    let item = p as usize + n as usize;
-    let fek = f as usize + e as usize;
-    let before = is_long(20, least(p as usize, f as usize));
-    let between = is_long(least(item, fek), greatest(p as usize, f as usize));
-    let after = is_long(greatest(item, fek), len);
-    either(before, either(between, after))
-}
-
-// More than 8 bytes lie between from and to.
-fn is_long(from: usize, to: usize) -> bool
-    ensures { λ r. ⌜ r ≡ ltb 8 (to - from) ⌝ }
-{
-    if to <= from {
-        return false;
+    let item = p as usize + n as usize + 8;
+    let fek = f as usize + e as usize + 8;
+    if 28 < least(p as usize, f as usize) {
+        return true;
     }
-    8 < to - from
+    if fek < p as usize {
+        return true;
+    }
+    if item < f as usize {
+        return true;
+    }
+    greatest(item, fek) < len
 }
 
 fn either(a: bool, b: bool) -> bool

@@ -1,8 +1,7 @@
 // Document 01, "Key List Entry and list": a list of Key List Entries, judged whole and walked entry by entry.
 ghost use mathlib.Core.Path.{_≡_};
-ghost use Prim.Native.Nat.{_+_, _<_, _^_};
 ghost use Rattle.keylist.specs.Reading.{listOf};
-ghost use Rattle.keylist.specs.Stepping.{entryStep, arrived, advanceOf};
+ghost use Rattle.keylist.specs.Stepping.{endAt, arrived, advanceOf};
 use keyentry::Entry;
 use keyentry::EntryRead;
 use records::LIMIT;
@@ -48,7 +47,8 @@ impl Place {
     pub const START: Place = Place { at: 4, index: 0 };
 }
 
-// One step, which judge and walk share: the entry at a place, or the end, or the refusal. At the last two the place stays.
+// One step, which judge and walk share: the entry at a place, or the end, or the refusal (the list's 1 and 2; then 2, 3 and the
+// reader's, given for the entry). At the last two the place stays.
 pub fn next_step(list: &[u8], place: Place) -> Advance
     ensures { λ r. ⌜ r ≡ advanceOf (now (list .entry)) place ⌝ }
 {
@@ -58,27 +58,9 @@ pub fn next_step(list: &[u8], place: Place) -> Advance
     if list.len() < 4 {
         return stay(Step::Refused(Refusal::Short, 0), place);
     }
-    if place.index < le32_at(list, 0) {
-        return enter(list, place);
+    if le32_at(list, 0) <= place.index {
+        return finish(list, place);
     }
-    if place.at == list.len() {
-        return stay(Step::End, place);
-    }
-    stay(Step::Refused(Refusal::BytesLeft, 0), place)
-}
-
-// A final step: the place stays.
-fn stay(step: Step, place: Place) -> Advance
-    ensures { λ r. ⌜ r ≡ record { step = step; place = place } ⌝ }
-{
-    Advance { step, place }
-}
-
-// The entry at a place, or the refusal given for it: 2, 3, then the entry's own.
-fn enter(list: &[u8], place: Place) -> Advance
-    requires { ⌜ place .index + 1 < 2 ^ 32 ⌝ }
-    ensures { λ r. ⌜ r ≡ arrived (now (list .entry)) place (entryStep (now (list .entry)) place) ⌝ }
-{
     let at = place.at;
     let index = place.index;
     if list.len() < at {
@@ -105,6 +87,23 @@ fn enter(list: &[u8], place: Place) -> Advance
         },
         EntryRead::Refused(refusal) => stay(Step::Refused(refusal, index), place),
     }
+}
+
+// Behind the last entry: the end, or 22 where bytes are left.
+fn finish(list: &[u8], place: Place) -> Advance
+    ensures { λ r. ⌜ r ≡ arrived (now (list .entry)) place (endAt (now (list .entry)) (place .at)) ⌝ }
+{
+    if place.at == list.len() {
+        return stay(Step::End, place);
+    }
+    stay(Step::Refused(Refusal::BytesLeft, 0), place)
+}
+
+// A final step: the place stays.
+fn stay(step: Step, place: Place) -> Advance
+    ensures { λ r. ⌜ r ≡ record { step = step; place = place } ⌝ }
+{
+    Advance { step, place }
 }
 
 // The list's count, or its refusal: the walk from its start to its end, in one pass.
