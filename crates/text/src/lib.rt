@@ -7,15 +7,13 @@ pub fn is_text(s: &[u8]) -> bool
     ensures { λ r. ⌜ r ≡ isText (now (s .entry)) ⌝ }
 {
     let mut at = 0;
-    while at < s.len() {
-        let left = s.len() - at;
-        if left < 2 {
-            return false;
-        }
+    let mut left = s.len();
+    while 2 <= left {
         if is_zero(s[at], s[at + 1]) {
             return left == 2;
         }
         at += 2;
+        left -= 2;
     }
     false
 }

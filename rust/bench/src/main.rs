@@ -508,54 +508,77 @@ fn operations() {
     row("choice", "88 and 368 bytes", &choose(20));
 }
 
-fn growth() {
-    println!("\n## Growth\n");
-    head();
-    for count in [1, 10, 100, 1_000, 2_621] {
-        row("list judge", &format!("{count} entries"), &list(count, 0));
-    }
-    row("list judge", "3,000 entries, refused 1", &list(3_000, 1));
-    for count in [1, 10, 100, 1_000, 2_621] {
-        row("list walk", &format!("{count} entries"), &walk(count));
-    }
-    for units in [1, 10, 100, 1_000, 8_165] {
-        let len = envelope_input(units).len();
-        row("envelope read", &format!("{len} bytes"), &envelope(units));
-    }
-    row(
-        "envelope read",
-        "65,528 bytes, wrong mark",
-        &wrong_mark(8_165),
-    );
-    for units in [1, 100, 8_165] {
-        let len = envelope_input(units).len();
-        row(
-            "envelope write",
-            &format!("{len} bytes, output kept"),
-            &envelope_write(units, Output::Kept),
-        );
-    }
-    for rows in [0, 1, 8, 64] {
-        row(
-            "decision",
-            &format!("latest, {rows} rows"),
-            &decide(Asked::Latest, rows),
-        );
-        row(
-            "decision",
-            &format!("named, {rows} rows"),
-            &decide(Asked::Named, rows),
-        );
-        row(
-            "decision",
-            &format!("root given, {rows} rows"),
-            &decide(Asked::Root, rows),
+/// Prints the rows of one operation at growing sizes: beside the ratio, how often the size and the library's time hold those of
+/// the row that is taken for 1.
+fn series(
+    operation: &str,
+    unit: &str,
+    one: usize,
+    sizes: &[usize],
+    at: impl Fn(usize) -> (usize, Found),
+) {
+    let found: Vec<(usize, Found)> = sizes.iter().map(|&size| at(size)).collect();
+    let (size_of_one, ref of_one) = found[one];
+    for (size, found) in &found {
+        println!(
+            "| {operation} | {size} {unit} | {:.2} | {:.2} to {:.2} | {:.1} | {:.1} |",
+            found.ratio,
+            found.spread.0,
+            found.spread.1,
+            *size as f64 / size_of_one as f64,
+            found.library / of_one.library
         );
     }
 }
 
+/// Numbers of entries, up to the longest list that is accepted.
+const COUNTS: [usize; 5] = [1, 10, 100, 1_000, 2_621];
+
+/// Units of the four texts, up to an envelope of 65,528 bytes.
+const UNITS: [usize; 5] = [1, 10, 100, 1_000, 8_165];
+
+const ROWS: [usize; 4] = [0, 1, 8, 64];
+
+fn growth() {
+    println!("\n## Growth\n");
+    println!("| operation | input | ratio | spread | size | time |");
+    println!("|---|---|---|---|---|---|");
+    let len = |units| envelope_input(units).len();
+    series("list judge", "entries", 0, &COUNTS, |count| {
+        (count, list(count, 0))
+    });
+    series("list judge, refused 1", "entries", 0, &[3_000], |count| {
+        (count, list(count, 1))
+    });
+    series("list walk", "entries", 0, &COUNTS, |count| {
+        (count, walk(count))
+    });
+    series("envelope read", "bytes", 0, &UNITS, |units| {
+        (len(units), envelope(units))
+    });
+    series("envelope read, wrong mark", "bytes", 0, &UNITS, |units| {
+        (len(units), wrong_mark(units))
+    });
+    series("envelope write, output kept", "bytes", 0, &UNITS, |units| {
+        (len(units), envelope_write(units, Output::Kept))
+    });
+    series("envelope reach", "bytes", 0, &UNITS, |units| {
+        (len(units), envelope_reach(units))
+    });
+    series("decision, latest", "rows", 1, &ROWS, |rows| {
+        (rows, decide(Asked::Latest, rows))
+    });
+    series("decision, named", "rows", 1, &ROWS, |rows| {
+        (rows, decide(Asked::Named, rows))
+    });
+    series("decision, root given", "rows", 1, &ROWS, |rows| {
+        (rows, decide(Asked::Root, rows))
+    });
+}
+
 fn main() {
-    println!("Ratio: the library's time over the reference's, the median of 201 rounds that time both; spread: its quartiles.\n");
+    println!("Ratio: the library's time over the reference's, the median of 201 rounds that time both. Spread: its quartiles.");
+    println!("Size and time: how often they hold the size and the library's time of the operation's row with 1.0.\n");
     operations();
     growth();
 }

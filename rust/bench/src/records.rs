@@ -67,7 +67,7 @@ pub fn efskey(certificate_len: usize) -> Vec<u8> {
 
 /// A text of `units` 16-bit units, the last of them zero.
 pub fn text(units: usize) -> Vec<u8> {
-    let mut text = vec![b'a', 0].repeat(units - 1);
+    let mut text = [b'a', 0].repeat(units - 1);
     text.extend([0, 0]);
     text
 }

@@ -1,7 +1,8 @@
 -- `is_text`: the text from the next unit on gives the whole answer.
-use Prim.Native.Nat.{_-_, _≤_}
+use Prim.Native.Nat.{_+_, _-_}
 use native.Mathlib.Omega.{arith}
-use mathlib.Core.Path.{_≡_, refl, sym, _∙_}
+use mathlib.Core.Path.{_≡_, refl, sym, ap, _∙_}
+use lib.Dec.{eqb}
 use lib.ListN.{length, drop}
 use borrow.Author.Needs.{needs}
 use Rattle.text.specs.Text.{isText}
@@ -10,30 +11,25 @@ use Rattle.text.proofs.is_text.Statement.{statement}
 use Rattle.text.proofs.is_text.Tie as tie
 
 abbrev Inv-loop : tie.InvT-loop
-Inv-loop s at₀ at = (at ≤ length s) × (isText (drop at s) ≡ isText s)
+Inv-loop s at₀ left₀ at left = (at + left ≡ length s) × (isText (drop at s) ≡ isText s)
 
 abbrev μ-loop : tie.MeasureT-loop
-μ-loop s at₀ at = length s - at
+μ-loop s at₀ left₀ at left = left
 
 returns : tie.Need-returns Inv-loop μ-loop
 returns c =
-    let l = c .before .before in
-    sym (text-short (l .before .before .args .s .now) (l .loop .at) (omega arith)) ∙ l .loop .inv .1
-
-returns-2 : tie.Need-returns-2 Inv-loop μ-loop
-returns-2 c =
-    let t = c .before .before .before .before in
-    let l = t .before .before in
-    sym (text-last (l .before .before .args .s .now) (l .loop .at) (omega arith) (sym (c .before .is-zero .ensures) ∙ c .if2 .taken)) ∙ l .loop .inv .1
+    let l = c .before .before .before .before .before in
+    let s = l .before .before .args .s .now in
+    let left : l .loop .left ≡ length s - l .loop .at = omega arith in
+    ap (λ n. eqb n 2) left ∙ sym (text-last s (l .loop .at) (omega arith) (sym (c .before .is-zero .ensures) ∙ c .if1 .taken)) ∙ l .loop .inv .1
 
 loop-again : tie.Need-loop-again Inv-loop μ-loop
 loop-again c =
-    let t = c .before .before .before .before in
-    let l = t .before .before in
-    (omega arith, sym (text-next (l .before .before .args .s .now) (l .loop .at) (omega arith) (sym (c .before .is-zero .ensures) ∙ c .if2 .left)) ∙ l .loop .inv .1)
+    let l = c .before .before .before .before .before in
+    (omega arith, sym (text-next (l .before .before .args .s .now) (l .loop .at) (omega arith) (sym (c .before .is-zero .ensures) ∙ c .if1 .left)) ∙ l .loop .inv .1)
 
-returns-3 : tie.Need-returns-3 Inv-loop μ-loop
-returns-3 c =
+returns-2 : tie.Need-returns-2 Inv-loop μ-loop
+returns-2 c =
     let l = c .before in
     sym (text-short (l .before .before .args .s .now) (l .loop .at) (omega arith)) ∙ l .loop .inv .1
 
@@ -45,13 +41,11 @@ is-text-spec =
     μ-loop
     (λ c. (omega arith, refl))
     (λ c. omega arith)
-    returns
-    (λ c. omega arith)
     (λ c. omega arith)
     (λ c. omega arith)
     (λ c κs. search needs)
-    returns-2
+    returns
     (λ c. omega arith)
     (λ c. omega arith)
     loop-again
-    returns-3)
+    returns-2)
