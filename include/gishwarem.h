@@ -136,8 +136,8 @@ typedef struct gw_step_answer {
     uint32_t index;      /* the entry's index, also on a refusal that is given for it */
     uint32_t algorithm;  /* GW_ALGORITHM_.. */
     uint32_t flags;      /* Flags, as they stand */
-    uint32_t next_index; /* index to go on at */
-    size_t next_at;      /* offset to go on at */
+    uint32_t next_index; /* index to go on at; at the end the one asked at */
+    size_t next_at;      /* offset to go on at; at the end the one asked at */
     size_t at;           /* offset of the entry in the list */
     gw_part item;        /* the public key item, counted from the entry's first byte */
     gw_part fek;         /* the FEK, counted from the entry's first byte */
@@ -324,30 +324,103 @@ static inline const char *gw_refusal_text(uint32_t number)
 #else
 #define GW_ASSERT(name, fact) typedef char gw_assert_##name[(fact) ? 1 : -1]
 #endif
-GW_ASSERT(size_of_size_t, sizeof(size_t) == 8);
-GW_ASSERT(part, sizeof(gw_part) == 16 && offsetof(gw_part, len) == 8);
-GW_ASSERT(identifier, sizeof(gw_identifier) == 12 && offsetof(gw_identifier, l2) == 8);
-GW_ASSERT(root, sizeof(gw_root) == 16);
-GW_ASSERT(written, sizeof(gw_written_answer) == 16 && offsetof(gw_written_answer, len) == 8);
-GW_ASSERT(entry, sizeof(gw_entry_answer) == 48 && offsetof(gw_entry_answer, item) == 16 && offsetof(gw_entry_answer, fek) == 32);
-GW_ASSERT(list, sizeof(gw_list_answer) == 12 && offsetof(gw_list_answer, index) == 8);
-GW_ASSERT(step, sizeof(gw_step_answer) == 72 && offsetof(gw_step_answer, next_index) == 20 &&
-                    offsetof(gw_step_answer, next_at) == 24 && offsetof(gw_step_answer, at) == 32 &&
-                    offsetof(gw_step_answer, item) == 40 && offsetof(gw_step_answer, fek) == 56);
-GW_ASSERT(efskey, sizeof(gw_efskey_answer) == 40 && offsetof(gw_efskey_answer, sid) == 8 &&
-                      offsetof(gw_efskey_answer, certificate) == 24);
-GW_ASSERT(head, sizeof(gw_head) == 44 && offsetof(gw_head, at) == 8 && offsetof(gw_head, root) == 20 &&
-                    offsetof(gw_head, private_length) == 36 && offsetof(gw_head, public_length) == 40);
-GW_ASSERT(bodies, sizeof(gw_bodies) == 128 && offsetof(gw_bodies, domain) == 64 && offsetof(gw_bodies, l2_key) == 112);
-GW_ASSERT(envelope, sizeof(gw_envelope_answer) == 184 && offsetof(gw_envelope_answer, head) == 12 &&
-                        offsetof(gw_envelope_answer, bodies) == 56);
-GW_ASSERT(reach, sizeof(gw_reach_answer) == 136 && offsetof(gw_reach_answer, rows) == 8);
-GW_ASSERT(identifier_answer, sizeof(gw_identifier_answer) == 20 && offsetof(gw_identifier_answer, at) == 8);
-GW_ASSERT(start, sizeof(gw_start_answer) == 16 && offsetof(gw_start_answer, time) == 8);
-GW_ASSERT(request, sizeof(gw_request) == 32 && offsetof(gw_request, l0) == 4 && offsetof(gw_request, root) == 16);
-GW_ASSERT(decision, sizeof(gw_decision_answer) == 32 && offsetof(gw_decision_answer, at) == 12 &&
-                        offsetof(gw_decision_answer, row) == 24);
-GW_ASSERT(choice, sizeof(gw_choice_answer) == 32 && offsetof(gw_choice_answer, place) == 16);
+#define GW_SIZE(type, size) GW_ASSERT(type##_size, sizeof(type) == size)
+#define GW_AT(type, field, place) GW_ASSERT(type##_##field, offsetof(type, field) == place)
+GW_SIZE(size_t, 8);
+GW_SIZE(gw_part, 16);
+GW_AT(gw_part, at, 0);
+GW_AT(gw_part, len, 8);
+GW_SIZE(gw_identifier, 12);
+GW_AT(gw_identifier, l0, 0);
+GW_AT(gw_identifier, l1, 4);
+GW_AT(gw_identifier, l2, 8);
+GW_SIZE(gw_root, 16);
+GW_AT(gw_root, bytes, 0);
+GW_SIZE(gw_written_answer, 16);
+GW_AT(gw_written_answer, refusal, 0);
+GW_AT(gw_written_answer, reserved, 4);
+GW_AT(gw_written_answer, len, 8);
+GW_SIZE(gw_entry_answer, 48);
+GW_AT(gw_entry_answer, refusal, 0);
+GW_AT(gw_entry_answer, algorithm, 4);
+GW_AT(gw_entry_answer, flags, 8);
+GW_AT(gw_entry_answer, reserved, 12);
+GW_AT(gw_entry_answer, item, 16);
+GW_AT(gw_entry_answer, fek, 32);
+GW_SIZE(gw_list_answer, 12);
+GW_AT(gw_list_answer, refusal, 0);
+GW_AT(gw_list_answer, count, 4);
+GW_AT(gw_list_answer, index, 8);
+GW_SIZE(gw_step_answer, 72);
+GW_AT(gw_step_answer, refusal, 0);
+GW_AT(gw_step_answer, found, 4);
+GW_AT(gw_step_answer, index, 8);
+GW_AT(gw_step_answer, algorithm, 12);
+GW_AT(gw_step_answer, flags, 16);
+GW_AT(gw_step_answer, next_index, 20);
+GW_AT(gw_step_answer, next_at, 24);
+GW_AT(gw_step_answer, at, 32);
+GW_AT(gw_step_answer, item, 40);
+GW_AT(gw_step_answer, fek, 56);
+GW_SIZE(gw_efskey_answer, 40);
+GW_AT(gw_efskey_answer, refusal, 0);
+GW_AT(gw_efskey_answer, kind, 4);
+GW_AT(gw_efskey_answer, sid, 8);
+GW_AT(gw_efskey_answer, certificate, 24);
+GW_SIZE(gw_head, 44);
+GW_AT(gw_head, version, 0);
+GW_AT(gw_head, flags, 4);
+GW_AT(gw_head, at, 8);
+GW_AT(gw_head, root, 20);
+GW_AT(gw_head, private_length, 36);
+GW_AT(gw_head, public_length, 40);
+GW_SIZE(gw_bodies, 128);
+GW_AT(gw_bodies, kdf, 0);
+GW_AT(gw_bodies, kdf_parameters, 16);
+GW_AT(gw_bodies, agreement, 32);
+GW_AT(gw_bodies, agreement_parameters, 48);
+GW_AT(gw_bodies, domain, 64);
+GW_AT(gw_bodies, forest, 80);
+GW_AT(gw_bodies, l1_key, 96);
+GW_AT(gw_bodies, l2_key, 112);
+GW_SIZE(gw_envelope_answer, 184);
+GW_AT(gw_envelope_answer, refusal, 0);
+GW_AT(gw_envelope_answer, form, 4);
+GW_AT(gw_envelope_answer, is_public, 8);
+GW_AT(gw_envelope_answer, head, 12);
+GW_AT(gw_envelope_answer, bodies, 56);
+GW_SIZE(gw_reach_answer, 136);
+GW_AT(gw_reach_answer, refusal, 0);
+GW_AT(gw_reach_answer, total, 4);
+GW_AT(gw_reach_answer, rows, 8);
+GW_SIZE(gw_identifier_answer, 20);
+GW_AT(gw_identifier_answer, refusal, 0);
+GW_AT(gw_identifier_answer, found, 4);
+GW_AT(gw_identifier_answer, at, 8);
+GW_SIZE(gw_start_answer, 16);
+GW_AT(gw_start_answer, refusal, 0);
+GW_AT(gw_start_answer, reserved, 4);
+GW_AT(gw_start_answer, time, 8);
+GW_SIZE(gw_request, 32);
+GW_AT(gw_request, root_given, 0);
+GW_AT(gw_request, l0, 4);
+GW_AT(gw_request, l1, 8);
+GW_AT(gw_request, l2, 12);
+GW_AT(gw_request, root, 16);
+GW_SIZE(gw_decision_answer, 32);
+GW_AT(gw_decision_answer, refusal, 0);
+GW_AT(gw_decision_answer, granted, 4);
+GW_AT(gw_decision_answer, form, 8);
+GW_AT(gw_decision_answer, at, 12);
+GW_AT(gw_decision_answer, row, 24);
+GW_SIZE(gw_choice_answer, 32);
+GW_AT(gw_choice_answer, refusal, 0);
+GW_AT(gw_choice_answer, which, 4);
+GW_AT(gw_choice_answer, key, 8);
+GW_AT(gw_choice_answer, reserved, 12);
+GW_AT(gw_choice_answer, place, 16);
+#undef GW_AT
+#undef GW_SIZE
 #undef GW_ASSERT
 
 #ifdef __cplusplus

@@ -1,7 +1,7 @@
 //! What the reference answers, in the library's own structs: the refusal's number, and zeros beside it.
 
 use gishwarem::raw::{
-    Bodies, ChoiceAnswer, DecisionAnswer, EfsKeyAnswer, EntryAnswer, EnvelopeAnswer, Head,
+    codes, Bodies, ChoiceAnswer, DecisionAnswer, EfsKeyAnswer, EntryAnswer, EnvelopeAnswer, Head,
     Identifier, IdentifierAnswer, ListAnswer, Part, ReachAnswer, Request, Root, StartAnswer,
     StepAnswer, WrittenAnswer,
 };
@@ -12,8 +12,6 @@ use reference::list::Step;
 use reference::reach::{self, Form, Reach};
 use reference::time::{self, Gkid};
 use reference::{efskey, entry, envelope, list};
-
-use crate::codes;
 
 /// The answer to a refusal: its number, and zeros.
 macro_rules! refused {

@@ -7,7 +7,6 @@
 #![deny(missing_docs)]
 
 pub mod ask;
-pub mod codes;
 pub mod expected;
 pub mod hex;
 pub mod lent;

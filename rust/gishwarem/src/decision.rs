@@ -1,6 +1,7 @@
 //! The GetKey decision (MS-GKDI 3.1.4.1).
 
 use crate::answer::accepted;
+use crate::raw::codes;
 use crate::{calls, raw, FileTime, Form, Gkid, Refusal, Request};
 
 /// The rights of a caller, the weakest first.
@@ -23,11 +24,11 @@ use crate::{calls, raw, FileTime, Form, Gkid, Refusal, Request};
 #[derive(Debug, Clone, Copy, PartialEq, Eq, PartialOrd, Ord, Hash)]
 pub enum Rights {
     /// Nothing.
-    None = 0,
+    None = codes::RIGHTS_NONE,
     /// Public keys.
-    Public = 1,
+    Public = codes::RIGHTS_PUBLIC,
     /// Seed keys.
-    Seed = 2,
+    Seed = codes::RIGHTS_SEED,
 }
 
 impl Rights {
@@ -65,8 +66,8 @@ impl Row {
     /// The root key that a decision grants.
     fn from_answer(answer: &raw::DecisionAnswer) -> Row {
         match answer.granted {
-            1 => Row::At(answer.row),
-            2 => Row::Create,
+            codes::GRANTED_ROW => Row::At(answer.row),
+            codes::GRANTED_CREATE => Row::Create,
             _ => unreachable!("the library grants a row or a root key to create"),
         }
     }

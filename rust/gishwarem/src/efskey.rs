@@ -1,6 +1,7 @@
 //! The EfsKey (MS-GPEF 2.2.1.2.2), read and written.
 
 use crate::answer::{accepted, cut, written};
+use crate::raw::codes;
 use crate::{calls, Refusal};
 
 /// An EfsKey that was accepted, its parts cut from the caller's bytes.
@@ -52,7 +53,7 @@ impl<'a> EfsKey<'a> {
         let answer = calls::efskey_read(bytes);
         accepted(answer.refusal)?;
         Ok(EfsKey {
-            sid: (answer.kind == 1).then(|| cut(bytes, answer.sid)),
+            sid: (answer.kind == codes::SID_GIVEN).then(|| cut(bytes, answer.sid)),
             certificate: cut(bytes, answer.certificate),
         })
     }

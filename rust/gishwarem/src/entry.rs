@@ -1,6 +1,7 @@
 //! The Key List Entry (MS-EFSR 2.2.2.1.2), read and written.
 
 use crate::answer::{accepted, cut, written};
+use crate::raw::codes;
 use crate::{calls, raw, Refusal};
 
 /// The algorithm of an entry's FEK, which its Flags name. Flags never refuse.
@@ -32,9 +33,9 @@ impl Algorithm {
     /// The algorithm of a code that the library answers.
     fn from_code(code: u32) -> Algorithm {
         match code {
-            1 => Algorithm::Rsa,
-            2 => Algorithm::Aes256,
-            3 => Algorithm::Unsupported,
+            codes::ALGORITHM_RSA => Algorithm::Rsa,
+            codes::ALGORITHM_AES256 => Algorithm::Aes256,
+            codes::ALGORITHM_UNSUPPORTED => Algorithm::Unsupported,
             _ => unreachable!("the library answers a listed algorithm"),
         }
     }

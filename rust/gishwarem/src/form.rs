@@ -1,5 +1,7 @@
 //! Forms: which keys there are.
 
+use crate::raw::codes;
+
 /// The keys that an envelope carries, or that a request is granted.
 ///
 /// ```
@@ -18,26 +20,26 @@
 #[derive(Debug, Clone, Copy, PartialEq, Eq, Hash)]
 pub enum Form {
     /// NOKEY: none.
-    Keyless = 0,
+    Keyless = codes::FORM_KEYLESS,
     /// An L1 seed key.
-    L1Only = 1,
+    L1Only = codes::FORM_L1ONLY,
     /// An L2 seed key.
-    L2Only = 2,
+    L2Only = codes::FORM_L2ONLY,
     /// An L1 and an L2 seed key.
-    Both = 3,
+    Both = codes::FORM_BOTH,
     /// A public key.
-    Public = 4,
+    Public = codes::FORM_PUBLIC,
 }
 
 impl Form {
     /// The form of a code that the library answers.
     pub(crate) fn from_code(code: u32) -> Form {
         match code {
-            0 => Form::Keyless,
-            1 => Form::L1Only,
-            2 => Form::L2Only,
-            3 => Form::Both,
-            4 => Form::Public,
+            codes::FORM_KEYLESS => Form::Keyless,
+            codes::FORM_L1ONLY => Form::L1Only,
+            codes::FORM_L2ONLY => Form::L2Only,
+            codes::FORM_BOTH => Form::Both,
+            codes::FORM_PUBLIC => Form::Public,
             _ => unreachable!("the library answers a listed form"),
         }
     }

@@ -7,6 +7,8 @@
 //! A pointer and its length name bytes that may be read for the length of the call (written, for `out`), and `out` shares no
 //! byte with what is handed in beside it. A length of 0 goes with any pointer, a null one too.
 
+pub mod codes;
+
 /// A part of the caller's bytes.
 #[repr(C)]
 #[derive(Debug, Clone, Copy, PartialEq, Eq, Default)]

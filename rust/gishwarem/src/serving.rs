@@ -3,6 +3,7 @@
 use std::fmt;
 
 use crate::answer::{accepted, cut};
+use crate::raw::codes;
 use crate::secret::Unshown;
 use crate::{calls, Gkid, Refusal, RootId};
 
@@ -42,8 +43,8 @@ impl Source {
     /// The envelope of a code that the library answers.
     fn from_code(code: u32) -> Source {
         match code {
-            1 => Source::Cached,
-            2 => Source::Fetched,
+            codes::CACHED => Source::Cached,
+            codes::FETCHED => Source::Fetched,
             _ => unreachable!("the library chooses one of the two envelopes"),
         }
     }
@@ -89,8 +90,8 @@ impl SeedKey {
     /// The key of a code that the library answers.
     fn from_code(code: u32) -> SeedKey {
         match code {
-            1 => SeedKey::L1,
-            2 => SeedKey::L2,
+            codes::KEY_L1 => SeedKey::L1,
+            codes::KEY_L2 => SeedKey::L2,
             _ => unreachable!("the library chooses one of the two seed keys"),
         }
     }

@@ -3,6 +3,7 @@
 use std::iter::FusedIterator;
 
 use crate::answer::{accepted, cut};
+use crate::raw::codes;
 use crate::{calls, raw, Entry, ListRefusal};
 
 /// An entry that a walk finds.
@@ -113,7 +114,7 @@ impl<'a> Iterator for Walk<'a> {
             let index = step.index;
             return Some(Err(ListRefusal { refusal, index }));
         }
-        (step.found == 1).then(|| Ok(self.enter(&step)))
+        (step.found == codes::STEP_ENTRY).then(|| Ok(self.enter(&step)))
     }
 }
 

@@ -1,6 +1,6 @@
 //! The names, numbers and texts of this crate are those of the C header.
 
-use gishwarem::{Form, Refusal, Rights};
+use gishwarem::Refusal;
 
 const HEADER: &str = include_str!("../../../include/gishwarem.h");
 
@@ -55,14 +55,16 @@ fn refusals_have_the_headers_texts() {
     assert_eq!(texts(), expected);
 }
 
+/// Every code of the header, and no other, is a constant of the same name and number in `raw::codes`.
 #[test]
-fn forms_and_rights_have_the_headers_codes() {
-    assert_eq!(Form::Keyless as u32, defined("GW_FORM_KEYLESS"));
-    assert_eq!(Form::L1Only as u32, defined("GW_FORM_L1ONLY"));
-    assert_eq!(Form::L2Only as u32, defined("GW_FORM_L2ONLY"));
-    assert_eq!(Form::Both as u32, defined("GW_FORM_BOTH"));
-    assert_eq!(Form::Public as u32, defined("GW_FORM_PUBLIC"));
-    assert_eq!(Rights::None as u32, defined("GW_RIGHTS_NONE"));
-    assert_eq!(Rights::Public as u32, defined("GW_RIGHTS_PUBLIC"));
-    assert_eq!(Rights::Seed as u32, defined("GW_RIGHTS_SEED"));
+fn codes_have_the_headers_names_and_numbers() {
+    let constants: Vec<(String, u32)> = include_str!("../src/raw/codes.rs")
+        .lines()
+        .filter_map(|line| line.strip_prefix("pub const ")?.split_once(": u32 = "))
+        .map(|(name, number)| {
+            let number = number.trim_end_matches(';').parse().expect("a number");
+            (format!("GW{}", name.replace('_', "")), number)
+        })
+        .collect();
+    assert_eq!(definitions("/* Algorithms", "/* A part of"), constants);
 }

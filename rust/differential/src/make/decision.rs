@@ -2,12 +2,11 @@
 
 use std::fmt;
 
-use gishwarem::raw::{Identifier, Request, Root};
+use gishwarem::raw::{codes, Identifier, Request, Root};
 
 use super::envelope::root;
 use super::identifier::{self, of_step, STEP};
 use super::{code, junk, Kind};
-use crate::codes;
 use crate::hex::Hex;
 use crate::rng::Rng;
 

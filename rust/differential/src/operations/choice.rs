@@ -1,11 +1,13 @@
 //! The choice between a cached and a fetched envelope.
 
+use gishwarem::raw::codes;
+
 use super::Asked;
 use crate::make::choice;
 use crate::rng::Rng;
 use crate::subject::Subject;
 use crate::tally::Tally;
-use crate::{ask, codes, expected};
+use crate::{ask, expected};
 
 /// The choice.
 pub const CHOOSE: Subject = Subject {

@@ -1,11 +1,13 @@
 //! The GetKey decision.
 
+use gishwarem::raw::codes;
+
 use super::Asked;
 use crate::make::decision;
 use crate::rng::Rng;
 use crate::subject::Subject;
 use crate::tally::Tally;
-use crate::{ask, codes, expected};
+use crate::{ask, expected};
 
 /// The decision.
 pub const DECIDE: Subject = Subject {

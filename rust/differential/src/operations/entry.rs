@@ -1,5 +1,7 @@
 //! Reading and writing a Key List Entry.
 
+use gishwarem::raw::codes;
+
 use super::Asked;
 use crate::hex::Hex;
 use crate::lent::Output;
@@ -7,7 +9,7 @@ use crate::make::{entry, room};
 use crate::rng::Rng;
 use crate::subject::Subject;
 use crate::tally::Tally;
-use crate::{ask, codes, expected};
+use crate::{ask, expected};
 
 /// The reader.
 pub const READ: Subject = Subject {

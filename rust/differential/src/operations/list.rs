@@ -1,12 +1,14 @@
 //! Judging a list whole, and one step of its walk at any place.
 
+use gishwarem::raw::codes;
+
 use super::Asked;
 use crate::hex::Hex;
 use crate::make::list;
 use crate::rng::Rng;
 use crate::subject::Subject;
 use crate::tally::Tally;
-use crate::{ask, codes, expected};
+use crate::{ask, expected};
 
 /// The judge.
 pub const JUDGE: Subject = Subject {

@@ -1,12 +1,14 @@
 //! The reach of an envelope and of a form.
 
+use gishwarem::raw::codes;
+
 use super::Asked;
 use crate::hex::Hex;
 use crate::make::{code, envelope, identifier, Kind};
 use crate::rng::Rng;
 use crate::subject::Subject;
 use crate::tally::Tally;
-use crate::{ask, codes, expected};
+use crate::{ask, expected};
 
 /// The reach of an envelope.
 pub const OF_ENVELOPE: Subject = Subject {

@@ -1,8 +1,9 @@
 //! Round trips: what is written reads back as it was given, and what is read writes the same bytes.
 
-use gishwarem::raw::EnvelopeAnswer;
+use gishwarem::raw::{codes, EnvelopeAnswer};
 
 use super::part_of;
+use crate::ask;
 use crate::hex::Hex;
 use crate::lent::Output;
 use crate::make::envelope::Envelope;
@@ -10,7 +11,6 @@ use crate::make::{efskey, entry, envelope, room, Kind};
 use crate::rng::Rng;
 use crate::subject::Subject;
 use crate::tally::Tally;
-use crate::{ask, codes};
 
 /// An entry that is written reads back.
 pub const ENTRY: Subject = Subject {

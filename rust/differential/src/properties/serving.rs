@@ -1,14 +1,14 @@
 //! The choice goes by the reach: an envelope serves if it is accepted, has the wanted root and L0, and its map has the
 //! wanted bit; the cached one if that serves, else the fetched one, else 23.
 
-use gishwarem::raw::{ChoiceAnswer, EnvelopeAnswer};
+use gishwarem::raw::{codes, ChoiceAnswer, EnvelopeAnswer};
 
 use super::has_bit;
+use crate::ask;
 use crate::make::choice::{self, Question};
 use crate::rng::Rng;
 use crate::subject::Subject;
 use crate::tally::Tally;
-use crate::{ask, codes};
 
 /// The choice against the reach.
 pub const SERVING: Subject = Subject {

@@ -2,15 +2,15 @@
 //! under the same root row and at an identifier that isn't earlier; and what the granted form reaches is exactly the
 //! identifiers of the L0 group up to the granted one, the named one among them.
 
-use gishwarem::raw::{DecisionAnswer, Identifier, Request};
+use gishwarem::raw::{codes, DecisionAnswer, Identifier, Request};
 
 use super::has_bit;
+use crate::ask;
 use crate::make::decision;
 use crate::make::identifier::STEP;
 use crate::rng::Rng;
 use crate::subject::Subject;
 use crate::tally::Tally;
-use crate::{ask, codes};
 
 /// The demand, asked twice.
 pub const WAITING: Subject = Subject {

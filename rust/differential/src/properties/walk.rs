@@ -1,13 +1,13 @@
 //! The walk over a list ends as the judge says, and shows each entry as the entry's reader does.
 
-use gishwarem::raw::{ListAnswer, StepAnswer};
+use gishwarem::raw::{codes, ListAnswer, StepAnswer};
 
+use crate::ask;
 use crate::hex::Hex;
 use crate::make::list;
 use crate::rng::Rng;
 use crate::subject::Subject;
 use crate::tally::Tally;
-use crate::{ask, codes};
 
 /// The whole walk.
 pub const WALK: Subject = Subject {

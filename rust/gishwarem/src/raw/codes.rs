@@ -35,6 +35,8 @@ pub const RIGHTS_PUBLIC: u32 = 1;
 /// Rights to seed keys.
 pub const RIGHTS_SEED: u32 = 2;
 
+/// The verdict no.
+pub const VERDICT_IS_NO: u32 = 0;
 /// The verdict yes.
 pub const VERDICT_IS_YES: u32 = 1;
 
