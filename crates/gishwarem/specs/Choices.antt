@@ -11,7 +11,7 @@ use Rattle.serving.specs.Choice.{choiceNumber}
 use Rattle.gishwarem.specs.declared.envelopes.ReachAnswer.{ReachAnswer}
 use Rattle.gishwarem.specs.declared.envelopes.ChoiceAnswer.{ChoiceAnswer}
 use Rattle.gishwarem.specs.Codes.{keyCode}
-use Rattle.gishwarem.specs.Shapes.{partOf, noPart}
+use Rattle.gishwarem.specs.Shapes.{partShown, noPart}
 
 -- the number, the map and the number of its set bits
 unfoldable pub reachAnswer : Reach → ReachAnswer
@@ -19,7 +19,7 @@ reachAnswer r = record { refusal = reachNumber r; total = totalOf (r .rows); row
 
 -- the envelope that serves, the key by which it does, and where that stands
 abbrev pub chosenAt : ℕ → SeedKey → Span → ChoiceAnswer
-chosenAt which key span = record { refusal = 0; which = which; key = keyCode key; reserved = 0; place = partOf span }
+chosenAt which key span = record { refusal = 0; which = which; key = keyCode key; reserved = 0; place = partShown span }
 
 unfoldable pub choiceAnswer : Choice → ChoiceAnswer
 choiceAnswer (Cached key span) = chosenAt 1 key span

@@ -12,11 +12,11 @@ use Rattle.gishwarem.specs.declared.shapes.RootBytes.{RootBytes}
 use Rattle.gishwarem.specs.declared.decisions.RequestIndices.{RequestIndices}
 use Rattle.gishwarem.specs.declared.decisions.DecisionAnswer.{DecisionAnswer}
 use Rattle.gishwarem.specs.Codes.{formCode}
-use Rattle.gishwarem.specs.Shapes.{identifierOf, rootOf}
+use Rattle.gishwarem.specs.Shapes.{identifierShown, rootIdFrom}
 
 -- a code that is not 1 names no root key
 abbrev pub rootFrom : ℕ → RootBytes → Root
-rootFrom given id = cond (eqb given 1) (root.Given (rootOf id)) root.None
+rootFrom given id = cond (eqb given 1) (root.Given (rootIdFrom id)) root.None
 
 abbrev pub requestFrom : RequestIndices → Request
 requestFrom q = record { root = rootFrom (q .given) (q .root); l0 = q .l0; l1 = q .l1; l2 = q .l2 }
@@ -33,6 +33,6 @@ decisionAnswer a =
       refusal = answerNumber a;
       granted = grantCode a;
       form = formCode (answerForm a);
-      at = identifierOf (answerAt a);
+      at = identifierShown (answerAt a);
       row = answerRow a;
     }

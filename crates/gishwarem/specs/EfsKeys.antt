@@ -3,13 +3,13 @@ use Rattle.efskey.specs.declared.KeyRead.{KeyRead}
 use Rattle.efskey.specs.declared.KeyPart.the-variants as part
 use Rattle.efskey.specs.Reading.{keyNumber, sidKind, spanOf}
 use Rattle.gishwarem.specs.declared.efskeys.KeyAnswer.{KeyAnswer}
-use Rattle.gishwarem.specs.Shapes.{partOf}
+use Rattle.gishwarem.specs.Shapes.{partShown}
 
 unfoldable pub keyAnswer : KeyRead → KeyAnswer
 keyAnswer r =
     record {
       refusal = keyNumber r;
       kind = sidKind r;
-      sid = partOf (spanOf r part.Sid);
-      certificate = partOf (spanOf r part.Certificate);
+      sid = partShown (spanOf r part.Sid);
+      certificate = partShown (spanOf r part.Certificate);
     }

@@ -10,7 +10,7 @@ use Rattle.keyentry.specs.Reading.{algorithmOf, entryNumber, entryValues}
 use Rattle.keyentry.specs.Writing.{entryLength, writeChecks}
 use Rattle.gishwarem.specs.declared.entries.EntryAnswer.{EntryAnswer}
 use Rattle.gishwarem.specs.Codes.{algorithmCode}
-use Rattle.gishwarem.specs.Shapes.{partOf}
+use Rattle.gishwarem.specs.Shapes.{partShown}
 
 -- 0 on a refusal
 unfoldable pub entryAlgorithm : EntryRead → ℕ
@@ -24,8 +24,8 @@ entryAnswer r =
       algorithm = entryAlgorithm r;
       flags = entryValues r .flags;
       reserved = 0;
-      item = partOf (entryValues r .item);
-      fek = partOf (entryValues r .fek);
+      item = partShown (entryValues r .item);
+      fek = partShown (entryValues r .fek);
     }
 
 -- what the writer answers with this much room

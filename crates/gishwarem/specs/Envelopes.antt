@@ -1,6 +1,5 @@
 -- Document 01, "Group Key Envelope", for C.
 use Prim.Native.Nat.{ℕ}
-use mathlib.Core.List.{List}
 use lib.ListN.{replicate}
 use Rattle.refusal.specs.Number.{numberOf}
 use Rattle.refusal.specs.Chain.{firstOf}
@@ -18,15 +17,15 @@ use Rattle.gishwarem.specs.declared.envelopes.EnvelopeHead.{EnvelopeHead
 use Rattle.gishwarem.specs.declared.envelopes.EnvelopeBodies.{EnvelopeBodies}
 use Rattle.gishwarem.specs.declared.envelopes.EnvelopeAnswer.{EnvelopeAnswer}
 use Rattle.gishwarem.specs.Codes.{formCode, boolCode}
-use Rattle.gishwarem.specs.Shapes.{partOf, noPart, identifierOf, noIdentifier, gkidOf, rootOf, bytesOf}
+use Rattle.gishwarem.specs.Shapes.{partShown, noPart, identifierShown, noIdentifier, gkidFrom, rootIdFrom, rootShown}
 
-abbrev pub headOf : Head → EnvelopeHead
-headOf h =
+abbrev pub headShown : Head → EnvelopeHead
+headShown h =
     record {
       version = h .version;
       flags = h .flags;
-      at = identifierOf (h .at);
-      root = bytesOf (h .root);
+      at = identifierShown (h .at);
+      root = rootShown (h .root);
       privatelen = h .privatelen;
       publiclen = h .publiclen;
     }
@@ -36,23 +35,23 @@ headFrom h =
     record {
       version = h .version;
       flags = h .flags;
-      at = gkidOf (h .at);
-      root = rootOf (h .root);
+      at = gkidFrom (h .at);
+      root = rootIdFrom (h .root);
       privatelen = h .privatelen;
       publiclen = h .publiclen;
     }
 
-abbrev pub bodiesOf : Bodies → EnvelopeBodies
-bodiesOf b =
+abbrev pub bodiesShown : Bodies → EnvelopeBodies
+bodiesShown b =
     record {
-      kdf = partOf (b .kdf);
-      kdfparams = partOf (b .kdfparams);
-      agreement = partOf (b .agreement);
-      agreeparams = partOf (b .agreeparams);
-      domain = partOf (b .domain);
-      forest = partOf (b .forest);
-      l1key = partOf (b .l1key);
-      l2key = partOf (b .l2key);
+      kdf = partShown (b .kdf);
+      kdfparams = partShown (b .kdfparams);
+      agreement = partShown (b .agreement);
+      agreeparams = partShown (b .agreeparams);
+      domain = partShown (b .domain);
+      forest = partShown (b .forest);
+      l1key = partShown (b .l1key);
+      l2key = partShown (b .l2key);
     }
 
 -- a refused envelope: its number, and zeros
@@ -90,8 +89,8 @@ envelopeAnswer (Accepted e) =
       refusal = 0;
       form = formCode (formOf e);
       public = boolCode (isPublic (e .head .flags));
-      head = headOf (e .head);
-      bodies = bodiesOf (e .bodies);
+      head = headShown (e .head);
+      bodies = bodiesShown (e .bodies);
     }
 envelopeAnswer (Refused r) = noEnvelope (numberOf r)
 

@@ -11,7 +11,7 @@ use Rattle.keylist.specs.Reading.{listNumber, listCount, listIndex}
 use Rattle.gishwarem.specs.declared.lists.ListAnswer.{ListAnswer}
 use Rattle.gishwarem.specs.declared.lists.StepAnswer.{StepAnswer}
 use Rattle.gishwarem.specs.Codes.{algorithmCode}
-use Rattle.gishwarem.specs.Shapes.{partOf, noPart}
+use Rattle.gishwarem.specs.Shapes.{partShown, noPart}
 
 unfoldable pub listAnswer : ListRead → ListAnswer
 listAnswer r = record { refusal = listNumber r; count = listCount r; index = listIndex r }
@@ -44,8 +44,8 @@ stepShown (Entry found) next =
       nextindex = next .index;
       nextat = next .at;
       at = found .at;
-      item = partOf (found .entry .item);
-      fek = partOf (found .entry .fek);
+      item = partShown (found .entry .item);
+      fek = partShown (found .entry .fek);
     }
 stepShown End next = noEntry 0 2 0 (next .at) (next .index)
 stepShown (Refused r index) next = noEntry (numberOf r) 0 index 0 0

@@ -1,5 +1,4 @@
 -- The shapes of the C face that several answers and arguments share.
-use Prim.Native.Nat.{ℕ}
 use Rattle.wire.specs.declared.Span.{Span}
 use Rattle.gkid.specs.declared.Gkid.{Gkid}
 use Rattle.gkid.specs.Identifier as id
@@ -12,27 +11,30 @@ use Rattle.gishwarem.specs.declared.shapes.Identifier.{Identifier}
 use Rattle.gishwarem.specs.declared.shapes.RootBytes.{RootBytes}
 use Rattle.gishwarem.specs.declared.shapes.WrittenAnswer.{WrittenAnswer}
 
-abbrev pub partOf : Span → Part
-partOf s = record { at = s .at; len = s .len }
+-- what the library shows, as C has it
+abbrev pub partShown : Span → Part
+partShown s = record { at = s .at; len = s .len }
 
 -- an empty part at 0, beside a refusal and for what is absent
 abbrev pub noPart : Part
 noPart = record { at = 0; len = 0 }
 
-abbrev pub identifierOf : Gkid → Identifier
-identifierOf i = record { l0 = i .l0 .0; l1 = i .l1 .0; l2 = i .l2 .0 }
+abbrev pub identifierShown : Gkid → Identifier
+identifierShown i = record { l0 = i .l0 .0; l1 = i .l1 .0; l2 = i .l2 .0 }
 
 abbrev pub noIdentifier : Identifier
 noIdentifier = record { l0 = 0; l1 = 0; l2 = 0 }
 
-abbrev pub gkidOf : Identifier → Gkid
-gkidOf i = id.gkid (i .l0) (i .l1) (i .l2)
+-- what C hands in, as the library has it
+abbrev pub gkidFrom : Identifier → Gkid
+gkidFrom i = id.gkid (i .l0) (i .l1) (i .l2)
 
-abbrev pub rootOf : RootBytes → RootId
-rootOf r = rootAt (r .bytes) 0
+abbrev pub rootIdFrom : RootBytes → RootId
+rootIdFrom r = rootAt (r .bytes) 0
 
-abbrev pub bytesOf : RootId → RootBytes
-bytesOf r = record { bytes = rootBytes r }
+-- the 16 bytes as they stand in a record
+abbrev pub rootShown : RootId → RootBytes
+rootShown r = record { bytes = rootBytes r }
 
 unfoldable pub writtenAnswer : Written → WrittenAnswer
 writtenAnswer w = record { refusal = writtenNumber w; reserved = 0; len = writtenLength w }

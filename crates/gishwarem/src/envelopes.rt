@@ -8,8 +8,8 @@ ghost use Rattle.reach.specs.FormReach.{formReach};
 ghost use Rattle.serving.specs.Reach.{envelopeReach};
 ghost use Rattle.serving.specs.Choice.{choiceOf};
 ghost use Rattle.gishwarem.specs.Codes.{formFrom};
-ghost use Rattle.gishwarem.specs.Shapes.{gkidOf, rootOf, writtenAnswer};
-ghost use Rattle.gishwarem.specs.Envelopes.{headOf, headFrom, bodiesOf, envelopeAnswer, noEnvelope, envelopeWritten};
+ghost use Rattle.gishwarem.specs.Shapes.{gkidFrom, rootIdFrom, writtenAnswer};
+ghost use Rattle.gishwarem.specs.Envelopes.{headShown, headFrom, bodiesShown, envelopeAnswer, noEnvelope, envelopeWritten};
 ghost use Rattle.gishwarem.specs.Choices.{reachAnswer, choiceAnswer, chosenAt};
 use crate::codes::bool_code;
 use crate::codes::form_code;
@@ -88,7 +88,7 @@ pub struct ChoiceAnswer {
 }
 
 fn head_answer(head: Head) -> EnvelopeHead
-    ensures { λ r. ⌜ r ≡ headOf head ⌝ }
+    ensures { λ r. ⌜ r ≡ headShown head ⌝ }
 {
     EnvelopeHead {
         version: head.version,
@@ -114,7 +114,7 @@ fn head_from(head: EnvelopeHead) -> Head
 }
 
 fn bodies_answer(bodies: Bodies) -> EnvelopeBodies
-    ensures { λ r. ⌜ r ≡ bodiesOf bodies ⌝ }
+    ensures { λ r. ⌜ r ≡ bodiesShown bodies ⌝ }
 {
     EnvelopeBodies {
         kdf: to_part(bodies.kdf),
@@ -233,7 +233,7 @@ pub extern "C" fn gw_envelope_reach(s: &[u8]) -> ReachAnswer
 
 #[no_mangle]
 pub extern "C" fn gw_form_reach(form: u32, at: Identifier) -> ReachAnswer
-    ensures { λ r. ⌜ r ≡ reachAnswer (formReach (formFrom form) (gkidOf at)) ⌝ }
+    ensures { λ r. ⌜ r ≡ reachAnswer (formReach (formFrom form) (gkidFrom at)) ⌝ }
 {
     reach_answer(reach::form_reach(form_from(form), to_gkid(at)))
 }
@@ -257,7 +257,7 @@ pub extern "C" fn gw_choose(
     cached: &[u8],
     fetched: &[u8],
 ) -> ChoiceAnswer
-    ensures { λ r. ⌜ r ≡ choiceAnswer (choiceOf (rootOf id) (gkidOf wanted) (now (cached .entry)) (now (fetched .entry))) ⌝ }
+    ensures { λ r. ⌜ r ≡ choiceAnswer (choiceOf (rootIdFrom id) (gkidFrom wanted) (now (cached .entry)) (now (fetched .entry))) ⌝ }
 {
     match serving::choose(to_root(id), to_gkid(wanted), cached, fetched) {
         Choice::Cached(key, span) => chosen_at(1, key, span),

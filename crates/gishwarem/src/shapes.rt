@@ -1,6 +1,6 @@
 // The shapes that several answers and arguments share.
 ghost use mathlib.Core.Path.{_≡_};
-ghost use Rattle.gishwarem.specs.Shapes.{partOf, identifierOf, gkidOf, rootOf, bytesOf, writtenAnswer};
+ghost use Rattle.gishwarem.specs.Shapes.{partShown, identifierShown, gkidFrom, rootIdFrom, rootShown, writtenAnswer};
 use gkid::Gkid;
 use gkid::L0;
 use gkid::L1;
@@ -39,7 +39,7 @@ pub struct WrittenAnswer {
 }
 
 pub fn to_part(span: Span) -> Part
-    ensures { λ r. ⌜ r ≡ partOf span ⌝ }
+    ensures { λ r. ⌜ r ≡ partShown span ⌝ }
 {
     Part {
         at: span.at,
@@ -48,7 +48,7 @@ pub fn to_part(span: Span) -> Part
 }
 
 pub fn to_identifier(at: Gkid) -> Identifier
-    ensures { λ r. ⌜ r ≡ identifierOf at ⌝ }
+    ensures { λ r. ⌜ r ≡ identifierShown at ⌝ }
 {
     Identifier {
         l0: at.l0.0,
@@ -58,7 +58,7 @@ pub fn to_identifier(at: Gkid) -> Identifier
 }
 
 pub fn to_gkid(at: Identifier) -> Gkid
-    ensures { λ r. ⌜ r ≡ gkidOf at ⌝ }
+    ensures { λ r. ⌜ r ≡ gkidFrom at ⌝ }
 {
     Gkid {
         l0: L0(at.l0),
@@ -68,14 +68,14 @@ pub fn to_gkid(at: Identifier) -> Gkid
 }
 
 pub fn to_root(id: RootBytes) -> RootId
-    ensures { λ r. ⌜ r ≡ rootOf id ⌝ }
+    ensures { λ r. ⌜ r ≡ rootIdFrom id ⌝ }
 {
     let bytes = id.bytes;
     RootId::at(&bytes, 0)
 }
 
 pub fn to_bytes(root: RootId) -> RootBytes
-    ensures { λ r. ⌜ r ≡ bytesOf root ⌝ }
+    ensures { λ r. ⌜ r ≡ rootShown root ⌝ }
 {
     let mut bytes = [0u8; 16];
     root.put(&mut bytes);

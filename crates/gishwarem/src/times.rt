@@ -3,7 +3,7 @@ ghost use mathlib.Core.Path.{_≡_};
 ghost use Rattle.gkid.specs.Conversion.{gkidAt};
 ghost use Rattle.gkid.specs.Start.{startOf};
 ghost use Rattle.gkid.specs.Older.{olderOf};
-ghost use Rattle.gishwarem.specs.Shapes.{gkidOf, noIdentifier};
+ghost use Rattle.gishwarem.specs.Shapes.{gkidFrom, noIdentifier};
 ghost use Rattle.gishwarem.specs.Times.{presentAnswer, startAnswer, olderAnswer};
 use crate::shapes::Identifier;
 use crate::shapes::to_gkid;
@@ -42,7 +42,7 @@ pub extern "C" fn gw_time_identifier(time: u64) -> IdentifierAnswer
 
 #[no_mangle]
 pub extern "C" fn gw_identifier_start(at: Identifier) -> StartAnswer
-    ensures { λ r. ⌜ r ≡ startAnswer (startOf (gkidOf at)) ⌝ }
+    ensures { λ r. ⌜ r ≡ startAnswer (startOf (gkidFrom at)) ⌝ }
 {
     match to_gkid(at).start() {
         Start::At(time) => StartAnswer {
@@ -60,7 +60,7 @@ pub extern "C" fn gw_identifier_start(at: Identifier) -> StartAnswer
 
 #[no_mangle]
 pub extern "C" fn gw_identifier_older(at: Identifier) -> IdentifierAnswer
-    ensures { λ r. ⌜ r ≡ olderAnswer (olderOf (gkidOf at)) ⌝ }
+    ensures { λ r. ⌜ r ≡ olderAnswer (olderOf (gkidFrom at)) ⌝ }
 {
     match to_gkid(at).older() {
         Older::Is(older) => IdentifierAnswer {

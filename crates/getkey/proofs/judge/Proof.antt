@@ -1,6 +1,5 @@
 -- `judge`: one test after the other; the first that holds is the answer.
 use mathlib.Core.Path.{sym, ap, _∙_}
-use Rattle.refusal.proofs.Chains.{first-here, first-next}
 use Rattle.refusal.specs.Chain.{firstOf}
 use Rattle.getkey.specs.Deciding.{rightsTooLow, checks}
 use borrow.Author.Needs.{needs}

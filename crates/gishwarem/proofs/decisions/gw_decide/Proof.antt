@@ -1,6 +1,5 @@
 -- `gw_decide`: the decision is told.
-use mathlib.Core.Path.{sym, _∙_}
-use Rattle.getkey.specs.Deciding.{decision, answerNumber, answerAt, answerForm, answerRow}
+use Rattle.getkey.specs.Deciding.{answerNumber, answerAt, answerForm, answerRow}
 use Rattle.gishwarem.specs.Codes.{formCode}
 use Rattle.gishwarem.specs.Decisions.{grantCode, decisionAnswer}
 use borrow.Author.Needs.{needs}

@@ -1,6 +1,5 @@
 -- `gw_choose`: the choice is told.
-use mathlib.Core.Path.{sym, _∙_}
-use Rattle.serving.specs.Choice.{choiceOf, choiceNumber}
+use Rattle.serving.specs.Choice.{choiceNumber}
 use Rattle.gishwarem.specs.Choices.{choiceAnswer}
 use borrow.Author.Needs.{needs}
 use Rattle.gishwarem.proofs.envelopes.gw_choose.Statement.{statement}
