@@ -4,6 +4,7 @@
 
 CARGO = cargo --offline --quiet
 CFLAGS = -std=c99 -Wall -Wextra -Werror -pedantic -O2
+SOURCES := crates.txt include/gishwarem.h $(shell find crates -name '*.rt' -o -name '*.antt')
 
 run:
 	@mkdir -p target && rt check envinfo > target/run.log 2>&1 || { cat target/run.log; exit 1; }
@@ -13,10 +14,12 @@ run:
 test:
 	@scripts/gate
 
-lib:
+lib: build/libgishwarem.a
+	@echo "build/libgishwarem.a and build/gishwarem.h"
+
+build/libgishwarem.a: $(SOURCES)
 	@mkdir -p target build && rt staticlib gishwarem > target/lib.log 2>&1 || { cat target/lib.log; exit 1; }
 	@cp target/staticlib/libgishwarem.a include/gishwarem.h build/
-	@echo "build/libgishwarem.a and build/gishwarem.h"
 
 bench: lib
 	@cd rust && $(CARGO) run --release --bin bench
@@ -34,9 +37,6 @@ host: build/host
 
 build/host: examples/host.c include/gishwarem.h build/libgishwarem.a
 	@$(CC) $(CFLAGS) -Iinclude examples/host.c build/libgishwarem.a -o $@
-
-build/libgishwarem.a:
-	@$(MAKE) --no-print-directory lib
 
 doc: lib
 	@cd rust && $(CARGO) doc --no-deps -p gishwarem
