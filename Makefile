@@ -4,10 +4,11 @@
 
 CARGO = cargo --offline --quiet
 CFLAGS = -std=c99 -Wall -Wextra -Werror -pedantic -O2
+VECTORS := $(shell sed -n 's/^\(vectors_[a-z_]*\):.*/\1/p' crates.txt)
 SOURCES := crates.txt include/gishwarem.h $(shell find crates -name '*.rt' -o -name '*.antt')
 
 run:
-	@mkdir -p target && rt check envinfo > target/run.log 2>&1 || { cat target/run.log; exit 1; }
+	@scripts/prove check envinfo
 	@target/bin/envinfo < crates/envinfo/stdin
 	@echo "On a file of your own: target/bin/envinfo < FILE"
 
@@ -18,8 +19,8 @@ lib: build/libgishwarem.a
 	@echo "build/libgishwarem.a and build/gishwarem.h"
 
 build/libgishwarem.a: $(SOURCES)
-	@mkdir -p target build && rt staticlib gishwarem > target/lib.log 2>&1 || { cat target/lib.log; exit 1; }
-	@cp target/staticlib/libgishwarem.a include/gishwarem.h build/
+	@scripts/prove check gishwarem && scripts/prove staticlib gishwarem
+	@mkdir -p build && cp target/staticlib/libgishwarem.a include/gishwarem.h build/
 
 bench: lib
 	@cd rust && $(CARGO) run --release --bin bench
@@ -28,8 +29,8 @@ soak: lib
 	@cd rust && $(CARGO) run --release --bin soak
 
 vectors:
-	@mkdir -p target && rt check vectors > target/run.log 2>&1 || { cat target/run.log; exit 1; }
-	@target/bin/vectors
+	@scripts/prove check $(VECTORS)
+	@for program in $(VECTORS); do target/bin/$$program; done
 
 # The example host on its kept files.
 host: build/host

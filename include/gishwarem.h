@@ -5,7 +5,7 @@
  * allocated, and any bytes and numbers get an answer.
  *
  * What the caller owes: a pointer and its length name bytes that may be read for the length of the call (written, for `out`),
- * and `out` shares no byte with what is handed in beside it. A length of 0 goes with any pointer, NULL too.
+ * no other thread changes them meanwhile, and `out` shares no byte with what is handed in beside it. A length of 0 goes with any pointer, NULL too.
  *
  * Codes: 0 is none, refused or the weakest; real cases count from 1. A code handed in that is not listed is the weakest one. */
 #ifndef GISHWAREM_H
@@ -87,7 +87,8 @@ extern "C" {
 #define GW_KEY_L1 1u  /* its L1 key */
 #define GW_KEY_L2 2u  /* its L2 key */
 
-/* A part of the caller's bytes: on a refusal, and for what is absent, both are 0. */
+/* A part of the caller's bytes. Both are 0 beside a refusal, at the end of a list, and for an absent SID; an absent body of an
+ * envelope has length 0 at its place in the layout. */
 typedef struct gw_part {
     size_t at;  /* offset of its first byte */
     size_t len; /* its length */
@@ -153,7 +154,7 @@ typedef struct gw_efskey_answer {
 
 /* The head of a Group Key Envelope. */
 typedef struct gw_head {
-    uint32_t version;        /* dwVersion */
+    uint32_t version;        /* Version */
     uint32_t flags;          /* dwFlags; the value 1 is public */
     gw_identifier at;        /* the identifier of its keys */
     gw_root root;            /* the root key identifier */
@@ -276,7 +277,8 @@ gw_start_answer gw_identifier_start(gw_identifier at);
 /* The next older identifier of the same L0 group; (L0, 0, 0) has none. */
 gw_identifier_answer gw_identifier_older(gw_identifier at);
 
-/* The GetKey decision: GW_VERDICT_IS_.., GW_RIGHTS_.., a request, the clock as a FILETIME, and the root table. */
+/* The GetKey decision: GW_VERDICT_IS_.., GW_RIGHTS_.., a request, the clock as a FILETIME, and the root table: rows of 32 bytes,
+ * each a root key identifier (16), its use-start time (8) and its create time (8), times with the most significant byte first. */
 gw_decision_answer gw_decide(uint32_t verdict, uint32_t rights, gw_request request, uint64_t clock, const uint8_t *table,
                              size_t len);
 
@@ -287,33 +289,33 @@ gw_choice_answer gw_choose(gw_root root, gw_identifier wanted, const uint8_t *ca
 /* A refusal number in words, for logs. */
 static inline const char *gw_refusal_text(uint32_t number)
 {
-    static const char *const text[] = {
-        "accepted",
-        "record or list longer than 65,535 bytes",
-        "shorter than its fixed head",
-        "a length field or the sum of lengths disagrees with the bytes",
-        "fixed mark wrong",
-        "L1 or L2 index above 31",
-        "an item not at a permitted place",
-        "an item empty, or a public key item's length below 4",
-        "items overlap",
-        "unused run over 8 bytes",
-        "text malformed",
-        "key length breaks the key rules",
-        "SID malformed",
-        "output buffer shorter than the record",
-        "requested index out of range",
-        "requested indices mix -1 with others",
-        "descriptor verdict is no",
-        "request later than now",
-        "rights too low",
-        "no suitable root key",
-        "root table length no multiple of 32, or over 64 rows",
-        "identifier's start time exceeds 64 bits",
-        "bytes left after the last list entry",
-        "neither envelope serves",
-    };
-    return number < sizeof text / sizeof text[0] ? text[number] : "no such refusal number";
+    switch (number) {
+    case GW_ACCEPTED: return "accepted";
+    case GW_TOO_LONG: return "record or list longer than 65,535 bytes";
+    case GW_SHORT: return "shorter than its fixed head";
+    case GW_LENGTHS_DISAGREE: return "a length field or the sum of lengths disagrees with the bytes";
+    case GW_WRONG_MARK: return "fixed mark wrong";
+    case GW_INDEX_ABOVE_31: return "L1 or L2 index above 31";
+    case GW_MISPLACED: return "an item not at a permitted place";
+    case GW_EMPTY_ITEM: return "an item empty, or a public key item's length below 4";
+    case GW_OVERLAP: return "items overlap";
+    case GW_UNUSED_RUN: return "unused run over 8 bytes";
+    case GW_MALFORMED_TEXT: return "text malformed";
+    case GW_KEY_LENGTH: return "key length breaks the key rules";
+    case GW_MALFORMED_SID: return "SID malformed";
+    case GW_NO_ROOM: return "output buffer shorter than the record";
+    case GW_INDEX_OUT_OF_RANGE: return "requested index out of range";
+    case GW_MIXED_INDICES: return "requested indices mix -1 with others";
+    case GW_VERDICT_NO: return "descriptor verdict is no";
+    case GW_LATER_THAN_NOW: return "request later than now";
+    case GW_RIGHTS_TOO_LOW: return "rights too low";
+    case GW_NO_ROOT_KEY: return "no suitable root key";
+    case GW_TABLE_LENGTH: return "root table length no multiple of 32, or over 64 rows";
+    case GW_START_PAST_TIME: return "identifier's start time exceeds 64 bits";
+    case GW_BYTES_LEFT: return "bytes left after the last list entry";
+    case GW_NEITHER_SERVES: return "neither envelope serves";
+    default: return "no such refusal number";
+    }
 }
 
 /* The layout that the library was built for: x86-64, with no padding in any answer. */

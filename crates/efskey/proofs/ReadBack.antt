@@ -1,15 +1,6 @@
 -- What was written reads back as given, a refusal of the writer is the reader's, and writing what was read gives the same
 -- bytes but for Reserved2.
-use Prim.Native.Nat.{ℕ, _+_, _-_, _≤_}
-use native.Mathlib.Nat.{add-sub-cancel-left}
-use native.Mathlib.Omega.{arith}
-use mathlib.Core.Bool.{Bool, true, false, cond}
-use mathlib.Core.List.{List, [], _∷_, _++_}
-use mathlib.Core.Path.{_≡_, refl, sym, ap, ap₂, _∙_}
-use lib.Dec.{eqb}
-use lib.ListN.{length, take, drop, replicate, length-drop}
-use lib.Seq.{take-all}
-use borrow.Author.Tests.{ne-eqb}
+use Rattle.lemmas.proofs.Basics.{ℕ, _+_, _-_, _≤_, arith, add-sub-cancel-left, Bool, true, false, cond, List, [], _∷_, _++_, _≡_, refl, sym, ap, ap₂, _∙_, eqb, length, take, drop, replicate, length-drop, take-all, ne-eqb}
 use Rattle.refusal.specs.declared.Refusal.{Refusal}
 use Rattle.wire.specs.Numbers.{leBytes}
 use Rattle.wire.specs.Parts.{partOf, leAt, joined}
@@ -24,11 +15,11 @@ use Rattle.efskey.specs.declared.SidHint.the-variants as hint
 use Rattle.efskey.specs.declared.KeyRead.the-variants.{Key, Refused}
 use Rattle.efskey.specs.declared.KeyPart.the-variants.{Sid, Certificate}
 use Rattle.efskey.specs.Layout.{headOf, sidArea}
-use Rattle.efskey.specs.Reading.{hintOf, shownOf, keyOf, readOutcome, keyNumber, keyPart}
+use Rattle.efskey.specs.Reading.{keyOf, readOutcome, keyNumber, keyPart}
 use Rattle.efskey.specs.WellFormed.{WellFormed, SidField, absent, present}
 use Rattle.efskey.specs.Writing.{keyLength, sidOffset, keyPieces, keyBytes, keyWritten}
 use Rattle.efskey.proofs.ExactlyWhen.{accepted-well-formed}
-use Rattle.efskey.proofs.Parts.{shown, sid-bytes, certificate-bytes}
+use Rattle.efskey.proofs.Parts.{hintBy, shownBy, shown, sid-bytes, certificate-bytes}
 use Rattle.efskey.proofs.Writing.{givenHead, head-back, sid-back, certificate-back, within-limit, written-well-formed}
 
 -- the hint for a SID of a bytes: an empty SID means none
@@ -41,11 +32,11 @@ pub record ReadsAs (s sid certificate : List ℕ) : Type 0 where
   pub sidPart : keyPart s Sid ≡ sid
   pub certificatePart : keyPart s Certificate ≡ certificate
 
-hint-back : (a b : ℕ) → hintOf (givenHead a b) ≡ givenHint a
+hint-back : (a b : ℕ) → hintBy (givenHead a b) ≡ givenHint a
 unfolding givenHead
 hint-back a b = go (eqb a 0) refl
   where
-    go : (t : Bool) → eqb a 0 ≡ t → hintOf (givenHead a b) ≡ givenHint a
+    go : (t : Bool) → eqb a 0 ≡ t → hintBy (givenHead a b) ≡ givenHint a
     go true q = rw q
     go false q = rw (q, add-sub-cancel-left)
 
@@ -59,7 +50,7 @@ well-formed-back sid certificate w =
     let head = head-back sid certificate h in
     let at : 4 + (28 + a) ≡ 32 + a = omega arith in
     record {
-      answer = shown s w ∙ ap (λ hd. Key (shownOf hd)) head ∙ λ i. Key (record { sid = hint-back a b i; certificate = record { at = at i; len = b } });
+      answer = shown s w ∙ ap (λ hd. Key (shownBy hd)) head ∙ λ i. Key (record { sid = hint-back a b i; certificate = record { at = at i; len = b } });
       sidPart = sid-bytes s w ∙ sid-back sid certificate h;
       certificatePart = certificate-bytes s w ∙ ap (λ hd. partOf s (4 + hd .«certificate_offset») (hd .«certificate_length»)) head ∙ ap (λ n. partOf s n b) at ∙ certificate-back sid certificate;
     }

@@ -1,15 +1,8 @@
 -- The record that is written: reading it gives what was given, and refuses by 1, 7 or 12 only.
-use Prim.Native.Nat.{ℕ, _+_, _-_, _^_, _≤_, _<_, min}
-use native.Mathlib.Omega.{arith}
-use mathlib.Core.Bool.{Bool, true, false, not, _&&_}
-use mathlib.Core.List.{List, [], _∷_, _++_, append-nil}
-use mathlib.Core.Path.{_≡_, refl, sym, ap, _∙_}
-use lib.Dec.{ltb, eqb}
-use lib.ListN.{length, length-append}
-use borrow.Author.Tests.{ltb-true, ltb-false, le-ltb, lt-ltb, eqb-true, eq-eqb}
+use Rattle.lemmas.proofs.Basics.{ℕ, _+_, _-_, _^_, _≤_, _<_, min, arith, Bool, true, false, List, [], _∷_, _++_, append-nil, _≡_, refl, sym, ap, _∙_, ltb, eqb, length, length-append, lt-ltb, le-ltb, ltb-true, ltb-false, eq-eqb, eqb-true}
 use Rattle.refusal.specs.declared.Refusal.the-variants.{TooLong, EmptyItem, MalformedSid}
 use Rattle.refusal.specs.Chain.{Check, _⇒_, firstOf}
-use Rattle.refusal.proofs.Cases.{cond-cases}
+use Rattle.lemmas.proofs.Cases.{cond-cases}
 use Rattle.wire.specs.Numbers.{leBytes}
 use Rattle.wire.specs.Parts.{partOf, joined, le32Bytes}
 use Rattle.wire.proofs.Parts.{piece-part}
@@ -18,7 +11,8 @@ use Rattle.records.specs.declared.Written.the-variants.{Length}
 use Rattle.records.specs.Writing.{writtenOf}
 use Rattle.records.proofs.Laws.{written-accepted, refused-written}
 use Rattle.efskey.specs.declared.Head.{Head}
-use Rattle.efskey.specs.Layout.{headOf, sidArea, soundArea}
+use Rattle.efskey.specs.declared.SidArea.{SidArea}
+use Rattle.efskey.specs.Layout.{headOf, sidArea, areaOf, areaIn, sidMalformed}
 use Rattle.efskey.specs.Reading.{headChecks, keyChecks}
 use Rattle.efskey.specs.Writing.{keyLength, sidOffset, keyPieces, keyBytes, keyWritten}
 use Rattle.efskey.specs.WellFormed.{WellFormed}
@@ -29,12 +23,12 @@ unfoldable pub givenHead : ℕ → ℕ → Head
 givenHead a b =
     record { length1 = 32 + a + b; length2 = 32 + a + b - 4; «sid_offset» = sidOffset a; reserved1 = 2; «certificate_length» = b; «certificate_offset» = 28 + a }
 
--- The SID's three checks on such a head: only a SID that is given and is none is refused.
-sid-passes : (a b : ℕ) (one : Bool) → SidPasses (givenHead a b) one (not (eqb a 0) && not one)
+-- The SID's three checks on such a head: only a malformed area is refused.
+sid-passes : (a b : ℕ) (area : SidArea) → SidPasses (givenHead a b) area (sidMalformed area)
 unfolding givenHead
-sid-passes a b one = go (eqb a 0) refl
+sid-passes a b area = go (eqb a 0) refl
   where
-    go : (t : Bool) → eqb a 0 ≡ t → SidPasses (givenHead a b) one (not (eqb a 0) && not one)
+    go : (t : Bool) → eqb a 0 ≡ t → SidPasses (givenHead a b) area (sidMalformed area)
     go true q = let none = eqb-true a 0 q in rw (q, eq-eqb (28 + a) 28 (omega arith)) (refl, refl, refl)
     go false q = rw q (refl, refl, refl)
 
@@ -79,16 +73,17 @@ module _ (sid certificate : List ℕ) where
   givenChecks len =
       (ltb 65535 len ⇒ TooLong)
       ∷ (eqb (length certificate) 0 ⇒ EmptyItem)
-      ∷ (not (eqb (length sid) 0) && not (soundArea sid) ⇒ MalformedSid)
+      ∷ (sidMalformed (areaOf (sidOffset (length sid)) sid) ⇒ MalformedSid)
       ∷ []
 
   given-checks : size ≤ 65535 → firstOf (keyChecks whole) ≡ firstOf (givenChecks size)
   unfolding firstOf keyChecks headChecks givenChecks givenHead
   given-checks h =
-      let rest : firstOf (headChecks (length whole) (headOf whole) (soundArea (sidArea whole))) ≡ firstOf (headChecks size (givenHead (length sid) (length certificate)) (soundArea sid)) =
-      λ i. firstOf (headChecks (length-keyBytes i) (head-back h i) (soundArea (sid-back h i)))
+      let area = areaOf (sidOffset (length sid)) sid in
+      let rest : firstOf (headChecks (length whole) (headOf whole) ++ ((sidMalformed (areaIn whole) ⇒ MalformedSid) ∷ [])) ≡ firstOf (headChecks size (givenHead (length sid) (length certificate)) ++ ((sidMalformed area ⇒ MalformedSid) ∷ [])) =
+      λ i. firstOf (headChecks (length-keyBytes i) (head-back h i) ++ ((sidMalformed (areaOf (head-back h i .«sid_offset») (sid-back h i)) ⇒ MalformedSid) ∷ []))
       in
-      let passes = sid-passes (length sid) (length certificate) (soundArea sid) in
+      let passes = sid-passes (length sid) (length certificate) area in
       rw (rest, length-keyBytes, le-ltb size 32 (omega arith), eq-eqb size size refl, eq-eqb (size - 4 + 4) size (omega arith), le-ltb (28 + length sid) 28 (omega arith), eq-eqb (4 + (28 + length sid) + length certificate) size (omega arith), passes .0, passes .1, passes .2)
 
   -- The answer of those checks, on a length that stops past the limit, is what the reader would answer on the record.

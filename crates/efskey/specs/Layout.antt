@@ -1,12 +1,14 @@
 -- Document 01, "EfsKey": the numbers of the head and the rules that are made of them. Both offsets count from byte 4; sums are
 -- whole numbers.
 use Prim.Native.Nat.{ℕ, _+_, _-_}
-use mathlib.Core.Bool.{Bool, not, _&&_, _||_}
+use mathlib.Core.Bool.{Bool, true, false, not, cond, _&&_, _||_}
 use mathlib.Core.List.{List}
 use lib.Dec.{ltb, eqb}
 use Rattle.wire.specs.Parts.{partOf, leAt}
 use Rattle.sid.specs.Rule.{isSid}
 use Rattle.efskey.specs.declared.Head.{Head}
+use Rattle.efskey.specs.declared.SidArea.{SidArea}
+use Rattle.efskey.specs.declared.SidArea.the-variants.{None, Sid, Malformed}
 
 abbrev pub headOf : List ℕ → Head
 headOf s =
@@ -42,10 +44,15 @@ areaLength h = h .«certificate_offset» - 28
 unfoldable pub sidArea : List ℕ → List ℕ
 sidArea s = partOf s 32 (areaLength (headOf s))
 
--- the bytes of a SID area are one SID
-abbrev pub soundArea : List ℕ → Bool
-soundArea area = isSid area
+-- what the SID area holds: nothing where the SID offset is 0, else one SID, or it is malformed
+unfoldable pub areaOf : ℕ → List ℕ → SidArea
+areaOf offset area = cond (eqb offset 0) None (cond (isSid area) Sid Malformed)
 
--- 12: a SID, and its area is not sound
-abbrev pub sidMalformed : Head → Bool → Bool
-sidMalformed h sound = eqb (h .«sid_offset») 28 && not sound
+abbrev pub areaIn : List ℕ → SidArea
+areaIn s = areaOf (headOf s .«sid_offset») (sidArea s)
+
+-- 12: the area is malformed
+unfoldable pub sidMalformed : SidArea → Bool
+sidMalformed None = false
+sidMalformed Sid = false
+sidMalformed Malformed = true

@@ -1,17 +1,19 @@
 -- Document 01, "EfsKey": what reading a record answers.
 use Prim.Native.Nat.{ℕ, _+_}
-use mathlib.Core.Bool.{Bool, not, cond}
-use mathlib.Core.List.{List, [], _∷_}
+use mathlib.Core.Bool.{not}
+use mathlib.Core.List.{List, [], _∷_, _++_}
 use lib.Dec.{ltb, eqb}
 use lib.ListN.{length}
 use Rattle.refusal.specs.declared.Refusal.the-variants.{TooLong, Short, LengthsDisagree, WrongMark, EmptyItem, Misplaced, MalformedSid}
 use Rattle.refusal.specs.declared.Outcome.{Outcome}
 use Rattle.refusal.specs.declared.Outcome.the-variants as outcome
 use Rattle.refusal.specs.Number.{outcomeNumber}
-use Rattle.refusal.specs.Chain.{Check, _⇒_, firstOf}
+use Rattle.refusal.specs.Chain.{Check, _⇒_, firstOf, unlessRefused}
 use Rattle.wire.specs.declared.Span.{Span}
 use Rattle.wire.specs.Parts.{partOf}
 use Rattle.efskey.specs.declared.Head.{Head}
+use Rattle.efskey.specs.declared.SidArea.{SidArea}
+use Rattle.efskey.specs.declared.SidArea.the-variants as area
 use Rattle.efskey.specs.declared.SidHint.{SidHint}
 use Rattle.efskey.specs.declared.SidHint.the-variants as hint
 use Rattle.efskey.specs.declared.EfsKey.{EfsKey}
@@ -19,11 +21,11 @@ use Rattle.efskey.specs.declared.KeyRead.{KeyRead}
 use Rattle.efskey.specs.declared.KeyRead.the-variants.{Key, Refused}
 use Rattle.efskey.specs.declared.KeyPart.{KeyPart}
 use Rattle.efskey.specs.declared.KeyPart.the-variants as part
-use Rattle.efskey.specs.Layout.{headOf, lengthsDisagree, certificateMisplaced, sidMisplaced, gapWithoutSid, sidMalformed, areaLength, sidArea, soundArea}
+use Rattle.efskey.specs.Layout.{headOf, lengthsDisagree, certificateMisplaced, sidMisplaced, gapWithoutSid, areaLength, areaIn, sidMalformed}
 
--- The checks after 1 and 2, in document 01's order, on the record's length, its head and whether its SID area is sound.
-unfoldable pub headChecks : ℕ → Head → Bool → List Check
-headChecks len h sound =
+-- The checks of the head, in document 01's order, on the record's length and the head's numbers.
+unfoldable pub headChecks : ℕ → Head → List Check
+headChecks len h =
     -- 3 unless Length1 is the record's length and Length2 = Length1 - 4
     (lengthsDisagree len h ⇒ LengthsDisagree)
     -- 4 unless Reserved1 is 02 00 00 00
@@ -36,8 +38,6 @@ headChecks len h sound =
     ∷ (sidMisplaced h ⇒ Misplaced)
     -- if 0, 6 unless the certificate offset is 28
     ∷ (gapWithoutSid h ⇒ Misplaced)
-    -- if 28, 12 unless the bytes from 32 to the certificate are one SID
-    ∷ (sidMalformed h sound ⇒ MalformedSid)
     ∷ []
 
 unfoldable pub keyChecks : List ℕ → List Check
@@ -45,21 +45,21 @@ keyChecks s =
     -- 1, 2
     (ltb 65535 (length s) ⇒ TooLong)
     ∷ (ltb (length s) 32 ⇒ Short)
-    ∷ headChecks (length s) (headOf s) (soundArea (sidArea s))
+    ∷ (headChecks (length s) (headOf s)
+    -- if the SID offset is 28, 12 unless the bytes from 32 to the certificate are one SID
+    ++ ((sidMalformed (areaIn s) ⇒ MalformedSid) ∷ []))
 
--- what an accepted record with a head shows; an absent SID has no span
-abbrev pub hintOf : Head → SidHint
-hintOf h = cond (eqb (h .«sid_offset») 0) hint.None (hint.Sid (record { at = 32; len = areaLength h }))
+-- what an accepted record shows of its SID area: an absent SID has no span
+unfoldable pub hintOf : Head → SidArea → SidHint
+hintOf h area.None = hint.None
+hintOf h area.Sid = hint.Sid (record { at = 32; len = areaLength h })
+hintOf h area.Malformed = hint.None
 
-abbrev pub shownOf : Head → EfsKey
-shownOf h = record { sid = hintOf h; certificate = record { at = 4 + h .«certificate_offset»; len = h .«certificate_length» } }
-
-unfoldable pub answerOf : Outcome → EfsKey → KeyRead
-answerOf outcome.Accepted key = Key key
-answerOf (outcome.Refused r) key = Refused r
+abbrev pub shownOf : Head → SidArea → EfsKey
+shownOf h area = record { sid = hintOf h area; certificate = record { at = 4 + h .«certificate_offset»; len = h .«certificate_length» } }
 
 unfoldable pub keyOf : List ℕ → KeyRead
-keyOf s = answerOf (firstOf (keyChecks s)) (shownOf (headOf s))
+keyOf s = unlessRefused Refused (firstOf (keyChecks s)) (Key (shownOf (headOf s) (areaIn s)))
 
 -- the outcome of an answer, and document 01's number of it
 unfoldable pub readOutcome : KeyRead → Outcome

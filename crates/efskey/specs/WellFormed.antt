@@ -5,12 +5,13 @@ use mathlib.Core.List.{List, [], _∷_}
 use mathlib.Core.Path.{_≡_}
 use lib.ListN.{length}
 use Rattle.wire.specs.Parts.{partOf}
-use Rattle.efskey.specs.Layout.{headOf, sidArea, soundArea}
+use Rattle.sid.specs.Rule.{isSid}
+use Rattle.efskey.specs.Layout.{headOf, sidArea}
 
--- SID, optional: absent, with the certificate straight behind the head; or a sound area from byte 32 to the certificate
+-- SID, optional: absent, with the certificate straight behind the head; or one SID from byte 32 to the certificate
 pub data SidField (s : List ℕ) : Type 0 where
   absent : headOf s .«sid_offset» ≡ 0 → headOf s .«certificate_offset» ≡ 28 → SidField s
-  present : headOf s .«sid_offset» ≡ 28 → soundArea (sidArea s) ≡ true → SidField s
+  present : headOf s .«sid_offset» ≡ 28 → isSid (sidArea s) ≡ true → SidField s
 
 pub record WellFormed (s : List ℕ) : Type 0 where
   -- at most 65,535 bytes, and the 32 of the head are there

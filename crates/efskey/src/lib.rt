@@ -2,8 +2,8 @@
 ghost use mathlib.Core.Path.{_≡_};
 ghost use Prim.Native.Nat.{_+_, _≤_};
 ghost use lib.ListN.{length};
-ghost use Rattle.efskey.specs.Layout.{headOf, lengthsDisagree, certificateMisplaced, areaLength, soundArea};
-ghost use Rattle.efskey.specs.Reading.{headChecks, keyChecks, shownOf, keyOf, hintSpan, spanOf, keyPart};
+ghost use Rattle.efskey.specs.Layout.{headOf, lengthsDisagree, certificateMisplaced, areaLength, areaOf, sidMalformed};
+ghost use Rattle.efskey.specs.Reading.{headChecks, shownOf, hintOf, keyOf, hintSpan, spanOf, keyPart};
 ghost use Rattle.efskey.specs.Writing.{keyLength, sidOffset, keyBytes, keyWritten};
 ghost use Rattle.refusal.specs.Chain.{firstOf};
 ghost use Rattle.wire.specs.Parts.{onto};
@@ -21,6 +21,13 @@ use wire::Span;
 pub enum SidHint {
     None,
     Sid(Span),
+}
+
+// What stands between the head and the certificate: nothing, one SID, or something else.
+enum SidArea {
+    None,
+    Sid,
+    Malformed,
 }
 
 // What an accepted EfsKey shows. Its spans count from byte 0 of the record.
@@ -112,9 +119,9 @@ impl Head {
                 != self.length1 as u64)
     }
 
-    // The checks after 1 and 2, in document 01's order, for a record of len bytes with a sound SID area or not.
-    fn judge(self, len: usize, sound: bool) -> Outcome
-        ensures { λ r. ⌜ r ≡ firstOf (headChecks len self sound) ⌝ }
+    // The checks of the head, in document 01's order, for a record of len bytes.
+    fn judge(self, len: usize) -> Outcome
+        ensures { λ r. ⌜ r ≡ firstOf (headChecks len self) ⌝ }
     {
         if self.lengths_disagree(len) {
             return Outcome::Refused(Refusal::LengthsDisagree);
@@ -134,9 +141,6 @@ impl Head {
         if (self.sid_offset == 0) & (self.certificate_offset != 28) {
             return Outcome::Refused(Refusal::Misplaced);
         }
-        if (self.sid_offset == 28) & !sound {
-            return Outcome::Refused(Refusal::MalformedSid);
-        }
         Outcome::Accepted
     }
 
@@ -150,63 +154,83 @@ impl Head {
         self.certificate_offset as usize - 28
     }
 
-    // What an accepted record with this head shows.
-    fn shown(self) -> EfsKey
-        ensures { λ r. ⌜ r ≡ shownOf self ⌝ }
+    // What an accepted record with this head and SID area shows.
+    fn shown(self, area: SidArea) -> EfsKey
+        ensures { λ r. ⌜ r ≡ shownOf self area ⌝ }
     {
-        let certificate = Span {
-            at: 4 + self.certificate_offset as usize,
-            len: self.certificate_length as usize,
-        };
-        if self.sid_offset == 0 {
-            return EfsKey {
-                sid: SidHint::None,
-                certificate,
-            };
-        }
         EfsKey {
-            sid: SidHint::Sid(Span {
+            sid: self.hint(area),
+            certificate: Span {
+                at: 4 + self.certificate_offset as usize,
+                len: self.certificate_length as usize,
+            },
+        }
+    }
+
+    // What it shows of its SID.
+    fn hint(self, area: SidArea) -> SidHint
+        ensures { λ r. ⌜ r ≡ hintOf self area ⌝ }
+    {
+        match area {
+            SidArea::None => SidHint::None,
+            SidArea::Sid => SidHint::Sid(Span {
                 at: 32,
                 len: self.area_length(),
             }),
-            certificate,
+            SidArea::Malformed => SidHint::None,
         }
     }
 }
 
-// 12 unless the bytes of a SID area are one SID.
-fn is_sound_area(area: &[u8]) -> bool
-    ensures { λ r. ⌜ r ≡ soundArea (now (area .entry)) ⌝ }
-{
-    is_sid(area)
-}
+impl SidArea {
+    // What the bytes of the SID area are, with that SID offset.
+    fn of(offset: u32, area: &[u8]) -> SidArea
+        ensures { λ r. ⌜ r ≡ areaOf offset (now (area .entry)) ⌝ }
+    {
+        if offset == 0 {
+            return SidArea::None;
+        }
+        if is_sid(area) {
+            return SidArea::Sid;
+        }
+        SidArea::Malformed
+    }
 
-// The first check that applies, in document 01's order; 1 and 2 before anything is read.
-fn judge(s: &[u8]) -> Outcome
-    ensures { λ r. ⌜ r ≡ firstOf (keyChecks (now (s .entry))) ⌝ }
-{
-    if s.len() > LIMIT {
-        return Outcome::Refused(Refusal::TooLong);
+    // 12.
+    fn is_malformed(self) -> bool
+        ensures { λ r. ⌜ r ≡ sidMalformed self ⌝ }
+    {
+        match self {
+            SidArea::None => false,
+            SidArea::Sid => false,
+            SidArea::Malformed => true,
+        }
     }
-    if s.len() < 32 {
-        return Outcome::Refused(Refusal::Short);
-    }
-    let head = Head::of(s);
-    let area = Span {
-        at: 32,
-        len: head.area_length(),
-    };
-    head.judge(s.len(), is_sound_area(wire::part(s, area)))
 }
 
 // What a record shows, or its refusal.
 pub fn read(s: &[u8]) -> KeyRead
     ensures { λ r. ⌜ r ≡ keyOf (now (s .entry)) ⌝ }
 {
-    match judge(s) {
-        Outcome::Accepted => KeyRead::Key(Head::of(s).shown()),
-        Outcome::Refused(refusal) => KeyRead::Refused(refusal),
+    if s.len() > LIMIT {
+        return KeyRead::Refused(Refusal::TooLong);
     }
+    if s.len() < 32 {
+        return KeyRead::Refused(Refusal::Short);
+    }
+    let head = Head::of(s);
+    if let Outcome::Refused(refusal) = head.judge(s.len()) {
+        return KeyRead::Refused(refusal);
+    }
+    let span = Span {
+        at: 32,
+        len: head.area_length(),
+    };
+    let area = SidArea::of(head.sid_offset, wire::part(s, span));
+    if area.is_malformed() {
+        return KeyRead::Refused(Refusal::MalformedSid);
+    }
+    KeyRead::Key(head.shown(area))
 }
 
 // The bytes of a part: those very bytes of s, or the empty part on a refusal and for an absent SID.
@@ -254,13 +278,11 @@ fn answer(sid: &[u8], certificate: &[u8], room: usize) -> Written
     ensures { λ r. ⌜ r ≡ keyWritten (now (sid .entry)) (now (certificate .entry)) room ⌝ }
 {
     let len = grown(grown(32, sid.len()), certificate.len());
+    let area = SidArea::of(sid_offset(sid.len()), sid);
     let checks = Outcome::Accepted
         .refuse_if(len > LIMIT, Refusal::TooLong)
         .refuse_if(certificate.len() == 0, Refusal::EmptyItem)
-        .refuse_if(
-            (sid.len() != 0) & !is_sound_area(sid),
-            Refusal::MalformedSid,
-        );
+        .refuse_if(area.is_malformed(), Refusal::MalformedSid);
     fitted(checks, len, room)
 }
 

@@ -1,15 +1,9 @@
 -- What the writer accepted reads back as given; writing what was read from an accepted envelope gives the same bytes; and an absent
 -- key is an empty part.
-use Prim.Native.Nat.{ℕ, _+_, _≤_}
-use native.Mathlib.Omega.{arith}
-use mathlib.Core.List.{List, [], _∷_}
-use mathlib.Core.Path.{_≡_, refl, sym, ap, _∙_}
-use lib.ListN.{length}
-use borrow.Author.Tests.{ltb-false}
+use Rattle.lemmas.proofs.Basics.{ℕ, _+_, _≤_, arith, List, [], _∷_, _≡_, refl, sym, ap, _∙_, length, ltb-false}
 use Rattle.refusal.specs.declared.Outcome.{Outcome}
 use Rattle.refusal.specs.declared.Outcome.the-variants as outcome
-use Rattle.refusal.specs.Chain.{firstOf}
-use Rattle.refusal.proofs.Chains.{accepted-pass}
+use Rattle.refusal.specs.Chain.{firstOf, unlessRefused}
 use Rattle.wire.specs.Numbers.{leOf, leBytes}
 use Rattle.wire.specs.Parts.{leAt, partOf, joined}
 use Rattle.wire.proofs.Numbers.{Bytes, le-part-back}
@@ -20,10 +14,10 @@ use Rattle.envelope.specs.declared.EnvelopePart.{EnvelopePart}
 use Rattle.envelope.specs.declared.EnvelopePart.the-variants.{Kdf, KdfParameters, Agreement, AgreementParameters, Domain, Forest, L1Key, L2Key}
 use Rattle.envelope.specs.declared.EnvelopeRead.the-variants.{Accepted}
 use Rattle.envelope.specs.Layout.{mark, headOf, lengthsOf, endAt, bodiesOf, bodySpan}
-use Rattle.envelope.specs.Reading.{envelopeChecks, answer, shown, envelopeOf, envelopeNumber, spanOf, bodyAt, envelopeBody}
+use Rattle.envelope.specs.Reading.{envelopeChecks, shown, envelopeOf, envelopeNumber, spanOf, bodyAt, envelopeBody}
 use Rattle.envelope.specs.WellFormed.{WellFormed}
 use Rattle.envelope.specs.Writing.{Given, givenLengths, envelopeBytes}
-use Rattle.envelope.proofs.Reading.{accepted-shown}
+use Rattle.envelope.proofs.Reading.{answer, accepted-shown, passed}
 use Rattle.envelope.proofs.ExactlyWhen.{accepted-well-formed}
 use Rattle.envelope.proofs.Writing.{Fit, bodyGiven, length-bytes, is-head, are-lengths, body-is}
 
@@ -33,9 +27,9 @@ pub record ReadsBack (h : Head) (g : Given) : Type 0 where
   pub bodies : (which : EnvelopePart) → envelopeBody (envelopeBytes h g) which ≡ bodyGiven g which
 
 pub reads-back : (h : Head) (g : Given) → Fit h → firstOf (envelopeChecks (envelopeBytes h g)) ≡ outcome.Accepted → ReadsBack h g
-unfolding envelopeChecks envelopeOf answer spanOf
+unfolding envelopeOf unlessRefused spanOf
 reads-back h g fit accepted =
-    let small : endAt (givenLengths g) ≤ 65535 = rw (length-bytes h g) at (ltb-false 65535 (length (envelopeBytes h g)) (accepted-pass _ accepted .0)) in
+    let small : endAt (givenLengths g) ≤ 65535 = rw (length-bytes h g) at (ltb-false 65535 (length (envelopeBytes h g)) (passed _ accepted .limit)) in
     let read : envelopeOf (envelopeBytes h g) ≡ Accepted (record { head = h; bodies = bodiesOf (givenLengths g) }) =
     ap (λ o. answer o (shown (envelopeBytes h g))) accepted ∙ rw (is-head h g fit small, are-lengths h g fit small)
     in
@@ -117,7 +111,7 @@ rewritten s b z =
 -- Absent means absent: of an envelope with no L1 key the part handed out for it is empty, and so is the L2 key's of one with no L2 key.
 -- The part is a function of these bytes alone: there is no state to fall back on.
 pub absent : (s : List ℕ) (which : EnvelopePart) → bodySpan (bodiesOf (lengthsOf s)) which .len ≡ 0 → envelopeBody s which ≡ []
-unfolding envelopeOf answer spanOf
+unfolding envelopeOf unlessRefused spanOf
 absent s which none = told (firstOf (envelopeChecks s))
   where
     told : (o : Outcome) → partOf s (spanOf (answer o (shown s)) which .at) (spanOf (answer o (shown s)) which .len) ≡ []

@@ -1,14 +1,8 @@
 -- Laws of the writer: what its bytes read as, which checks can apply to them, and that they read back as given.
-use Prim.Native.Nat.{ℕ, _+_, _^_, _≤_, _<_, min}
-use native.Mathlib.Omega.{arith}
-use mathlib.Core.List.{List, [], _∷_, _++_, append-assoc, append-nil}
-use mathlib.Core.Path.{_≡_, refl, ap, _∙_}
-use lib.ListN.{length, take, length-append}
-use borrow.Author.Tests.{ltb-false, lt-ltb, le-ltb, eq-eqb}
-use mathlib.Core.Bool.{not}
-use Rattle.refusal.specs.declared.Refusal.the-variants.{TooLong}
-use Rattle.refusal.specs.Chain.{Check, firstOf}
-use Rattle.refusal.proofs.Chains.{accepted-pass, first-here, first-next, first-after}
+use Rattle.lemmas.proofs.Basics.{ℕ, _+_, _^_, _≤_, _<_, min, arith, not, List, [], _∷_, _++_, append-nil, append-assoc, _≡_, refl, ap, _∙_, ltb, length, take, length-append, lt-ltb, le-ltb, ltb-false, eq-eqb}
+use Rattle.refusal.specs.declared.Refusal.the-variants.{TooLong, IndexAbove31}
+use Rattle.refusal.specs.Chain.{Check, _⇒_, firstOf}
+use Rattle.refusal.proofs.Chains.{first-here, first-next, first-after}
 use Rattle.records.specs.declared.Written.the-variants.{Length}
 use Rattle.records.specs.Writing.{writtenOf}
 use Rattle.records.proofs.Laws.{over-capped, written-capped, written-accepted}
@@ -17,6 +11,7 @@ use Rattle.wire.specs.Parts.{leAt, joined, le32Bytes}
 use Rattle.wire.proofs.Numbers.{le-piece}
 use Rattle.wire.proofs.Parts.{piece-part, joined-append}
 use Rattle.wire.proofs.Writing.{length-joined}
+use Rattle.gkid.specs.Identifier.{indexAbove31}
 use Rattle.rootid.specs.Root.{rootBytes}
 use Rattle.rootid.proofs.Roots.{root-piece}
 use Rattle.envelope.specs.declared.Head.{Head}
@@ -24,8 +19,9 @@ use Rattle.envelope.specs.declared.Lengths.{Lengths}
 use Rattle.envelope.specs.declared.EnvelopePart.{EnvelopePart}
 use Rattle.envelope.specs.declared.EnvelopePart.the-variants.{Kdf, KdfParameters, Agreement, AgreementParameters, Domain, Forest, L1Key, L2Key}
 use Rattle.envelope.specs.Layout.{mark, headOf, lengthsOf, endAt, bodiesOf, bodySpan}
-use Rattle.envelope.specs.Reading.{bodyAt, layoutChecks, envelopeChecks}
-use Rattle.envelope.specs.Writing.{Given, givenLengths, headPieces, bodyPieces, pieces, envelopeBytes, givenChecks}
+use Rattle.envelope.specs.Reading.{bodyAt, headChecks, bodyChecks, layoutChecks, envelopeChecks}
+use Rattle.envelope.proofs.Reading.{passed}
+use Rattle.envelope.specs.Writing.{Given, givenLengths, headPieces, bodyPieces, pieces, envelopeBytes}
 
 -- the head's values are those of its fields' widths
 pub record Fit (h : Head) : Type 0 where
@@ -128,13 +124,16 @@ length-head h n = refl
 pub four-long : (a b c d : List ℕ) → length (((a ++ b) ++ c) ++ d) ≡ length a + length b + length c + length d
 four-long a b c d = simp length-append
 
--- the checks that can apply to what was given
+-- the checks that can apply to what was given, with a length of len: 1, 5 and those of the bodies
 abbrev pub checksOf : ℕ → Head → Given → List Check
-checksOf len h g = givenChecks len h (g .kdf) (g .agreement) (g .domain) (g .forest) (length (g .l1key)) (length (g .l2key))
+checksOf len h g =
+    (ltb 65535 len ⇒ TooLong)
+    ∷ (indexAbove31 (h .at) ⇒ IndexAbove31)
+    ∷ bodyChecks h (g .kdf) (g .agreement) (g .domain) (g .forest) (length (g .l1key)) (length (g .l2key))
 
--- Of the reader's checks on the bytes only 1, 5, 10 and 11 can apply.
+-- Of the reader's checks on the bytes no others can apply.
 pub write-checks : (h : Head) (g : Given) → Fit h → firstOf (envelopeChecks (envelopeBytes h g)) ≡ firstOf (checksOf (endAt (givenLengths g)) h g)
-unfolding envelopeChecks givenChecks layoutChecks
+unfolding envelopeChecks layoutChecks headChecks
 write-checks h g fit =
     rw (length-bytes h g)
     (first-after _ _ _ _ (λ q. let small = ltb-false 65535 (endAt (givenLengths g)) q in
@@ -154,7 +153,6 @@ write-checks h g fit =
 -- The answer from the capped length, as the code has it.
 pub answer-is : (h : Head) (g : Given) (room len : ℕ) → Fit h → len ≡ min (endAt (givenLengths g)) 65536
     → writtenOf (firstOf (checksOf len h g)) len room ≡ writtenOf (firstOf (envelopeChecks (envelopeBytes h g))) (endAt (givenLengths g)) room
-unfolding givenChecks
 answer-is h g room len fit e =
     let end = endAt (givenLengths g) in
     rw (e, over-capped end, ← (write-checks h g fit))
@@ -163,7 +161,6 @@ answer-is h g room len fit e =
 -- An envelope that is written is within the limit and the room.
 pub written-fits : (h : Head) (g : Given) (room n : ℕ) → writtenOf (firstOf (envelopeChecks (envelopeBytes h g))) (endAt (givenLengths g)) room ≡ Length n
     → (endAt (givenLengths g) ≤ 65535) × (endAt (givenLengths g) ≤ room)
-unfolding envelopeChecks
 written-fits h g room n e =
     let told = written-accepted _ (endAt (givenLengths g)) room n e in
-    (rw (length-bytes h g) at (ltb-false 65535 (length (envelopeBytes h g)) (accepted-pass _ (told .0) .0)), told .1)
+    (rw (length-bytes h g) at (ltb-false 65535 (length (envelopeBytes h g)) (passed _ (told .0) .limit)), told .1)

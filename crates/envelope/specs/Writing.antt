@@ -1,23 +1,17 @@
--- Document 01, "Group Key Envelope": what the writer makes and which checks can apply to it.
+-- Document 01, "Group Key Envelope": what the writer makes and answers.
 use Prim.Native.Nat.{ℕ}
-use mathlib.Core.Bool.{not}
 use mathlib.Core.Path.{_≡_}
 use mathlib.Core.List.{List, [], _∷_, _++_}
-use lib.Dec.{ltb}
 use lib.ListN.{length}
-use Rattle.refusal.specs.declared.Refusal.the-variants.{TooLong, IndexAbove31, MalformedText, KeyLength}
-use Rattle.refusal.specs.Chain.{Check, _⇒_, firstOf}
+use Rattle.refusal.specs.Chain.{firstOf}
 use Rattle.wire.specs.Numbers.{leBytes}
 use Rattle.wire.specs.Parts.{joined}
-use Rattle.gkid.specs.Identifier.{indexAbove31}
 use Rattle.rootid.specs.Root.{rootBytes}
-use Rattle.text.specs.Text.{isText}
-use Rattle.reach.specs.KeyRule.{keysAllowed}
 use Rattle.records.specs.declared.Written.{Written}
 use Rattle.records.specs.Writing.{writtenOf, outputOf}
 use Rattle.envelope.specs.declared.Head.{Head}
 use Rattle.envelope.specs.declared.Lengths.{Lengths}
-use Rattle.envelope.specs.Layout.{mark, isPublic, endAt}
+use Rattle.envelope.specs.Layout.{mark, endAt}
 use Rattle.envelope.specs.Reading.{envelopeChecks}
 
 -- the eight bodies that the writer is given
@@ -79,19 +73,6 @@ pieces h g = headPieces h (givenLengths g) ++ bodyPieces g
 
 unfoldable pub envelopeBytes : Head → Given → List ℕ
 envelopeBytes h g = joined (pieces h g)
-
--- what of the reader's checks can apply to an envelope of len bytes with these texts and keys of these lengths: 1, 5, 10, 11
--- (the law is `write-checks`)
-unfoldable pub givenChecks : ℕ → Head → List ℕ → List ℕ → List ℕ → List ℕ → ℕ → ℕ → List Check
-givenChecks len h kdf agreement domain forest l1len l2len =
-    (ltb 65535 len ⇒ TooLong)
-    ∷ (indexAbove31 (h .at) ⇒ IndexAbove31)
-    ∷ (not (isText kdf) ⇒ MalformedText)
-    ∷ (not (isText agreement) ⇒ MalformedText)
-    ∷ (not (isText domain) ⇒ MalformedText)
-    ∷ (not (isText forest) ⇒ MalformedText)
-    ∷ (not (keysAllowed (isPublic (h .flags)) (h .at) (h .publiclen) l1len l2len) ⇒ KeyLength)
-    ∷ []
 
 -- what a writer promises: it answers what the reader would answer on the bytes, then 13; the output is the envelope and what stood
 -- behind it, or as it was

@@ -4,17 +4,16 @@ ghost use mathlib.Core.List.{_++_};
 ghost use Prim.Native.Nat.{_+_, _≤_, min};
 ghost use lib.ListN.{length};
 ghost use Rattle.refusal.specs.Chain.{firstOf};
-ghost use Rattle.wire.specs.Parts.{startOf, partOf, onto, joined};
-ghost use mathlib.Core.Bool.{not};
-ghost use Rattle.text.specs.Text.{isText};
-ghost use Rattle.reach.specs.KeyRule.{keysAllowed};
+ghost use Rattle.wire.specs.Parts.{startOf, onto, joined};
+ghost use Rattle.keys.specs.KeyRule.{keyChecks};
 ghost use Rattle.envelope.specs.Layout.{headOf, isPublic, lengthsOf, endAt, bodiesOf, bodySpan};
-ghost use Rattle.envelope.specs.Reading.{bodyChecks, layoutChecks, envelopeOf, spanOf, envelopeSpan, envelopeBody};
-ghost use Rattle.envelope.specs.Writing.{given, givenLengths, headPieces, envelopeBytes, givenChecks, Wrote};
+ghost use Rattle.envelope.specs.Reading.{fourTexts, layoutChecks, envelopeOf, spanOf, envelopeSpan, envelopeBody, formOf};
+ghost use Rattle.envelope.specs.Writing.{given, givenLengths, headPieces, envelopeBytes, Wrote};
 use gkid::Gkid;
 use gkid::L0;
 use gkid::L1;
 use gkid::L2;
+use keys::Form;
 use records::LIMIT;
 use records::Written;
 use records::fitted;
@@ -209,57 +208,55 @@ fn end_of(n: Lengths) -> usize
 fn judge(s: &[u8], marked: u32, head: Head, n: Lengths) -> Outcome
     ensures { λ r. ⌜ r ≡ firstOf (layoutChecks (now (s .entry)) marked head n) ⌝ }
 {
+    if marked != 0x4B53444B {
+        return Outcome::Refused(Refusal::WrongMark);
+    }
     let at = head.at;
     let sound = Outcome::Accepted
-        .refuse_if(marked != 0x4B53444B, Refusal::WrongMark)
         .refuse_if(at.index_above_31(), Refusal::IndexAbove31)
         .refuse_if(end_of(n) != s.len(), Refusal::LengthsDisagree);
     match sound {
-        Outcome::Refused(first) => Outcome::Refused(first),
-        Outcome::Accepted => judge_bodies(s, head, n),
+        Outcome::Refused(_) => sound,
+        Outcome::Accepted => {
+            let bodies = bodies_of(n);
+            judge_texts(
+                wire::part(s, bodies.kdf),
+                wire::part(s, bodies.agreement),
+                wire::part(s, bodies.domain),
+                wire::part(s, bodies.forest),
+            ).then(judge_keys(head, n.l1key as usize, n.l2key as usize))
+        }
     }
 }
 
-// 10 and 11.
-fn judge_bodies(s: &[u8], head: Head, n: Lengths) -> Outcome
-    ensures { λ r. ⌜ r ≡ firstOf (bodyChecks (now (s .entry)) head n) ⌝ }
+// The rule of a text, for the four texts in body order.
+fn judge_texts(kdf: &[u8], agreement: &[u8], domain: &[u8], forest: &[u8]) -> Outcome
+    ensures { λ r. ⌜ r ≡ firstOf (fourTexts (now (kdf .entry)) (now (agreement .entry)) (now (domain .entry)) (now (forest .entry))) ⌝ }
 {
-    let bodies = bodies_of(n);
-    Outcome::Accepted
-        .refuse_if(
-            is_malformed(s, bodies, EnvelopePart::Kdf),
-            Refusal::MalformedText,
-        )
-        .refuse_if(
-            is_malformed(s, bodies, EnvelopePart::Agreement),
-            Refusal::MalformedText,
-        )
-        .refuse_if(
-            is_malformed(s, bodies, EnvelopePart::Domain),
-            Refusal::MalformedText,
-        )
-        .refuse_if(
-            is_malformed(s, bodies, EnvelopePart::Forest),
-            Refusal::MalformedText,
-        )
-        .refuse_if(
-            breaks_key_rule(head, n.l1key as usize, n.l2key as usize),
-            Refusal::KeyLength,
-        )
+    if let Outcome::Refused(refusal) = text::judge(kdf) {
+        return Outcome::Refused(refusal);
+    }
+    if let Outcome::Refused(refusal) = text::judge(agreement) {
+        return Outcome::Refused(refusal);
+    }
+    if let Outcome::Refused(refusal) = text::judge(domain) {
+        return Outcome::Refused(refusal);
+    }
+    text::judge(forest)
 }
 
-// A body that has to be a text is none.
-fn is_malformed(s: &[u8], bodies: Bodies, which: EnvelopePart) -> bool
-    ensures { λ r. ⌜ r ≡ not (isText (partOf (now (s .entry)) (bodySpan bodies which .at) (bodySpan bodies which .len))) ⌝ }
-{
-    !text::is_text(wire::part(s, span_in(bodies, which)))
-}
-
-fn breaks_key_rule(head: Head, l1: usize, l2: usize) -> bool
-    ensures { λ r. ⌜ r ≡ not (keysAllowed (isPublic (head .flags)) (head .at) (head .publiclen) l1 l2) ⌝ }
+// The key rule, for keys of these lengths.
+fn judge_keys(head: Head, l1len: usize, l2len: usize) -> Outcome
+    ensures { λ r. ⌜ r ≡ firstOf (keyChecks (isPublic (head .flags)) (head .at) (head .publiclen) l1len l2len) ⌝ }
 {
     let at = head.at;
-    !reach::keys_allowed(is_public(head.flags), at, head.publiclen as usize, l1, l2)
+    keys::judge(
+        is_public(head.flags),
+        at,
+        head.publiclen as usize,
+        l1len,
+        l2len,
+    )
 }
 
 fn span_in(bodies: Bodies, which: EnvelopePart) -> Span
@@ -283,6 +280,27 @@ pub fn part(s: &[u8], which: EnvelopePart) -> &[u8]
     ensures place { λ r. ⌜ (r .ptr .0 ≡ s .entry .ptr .0) × (r .ptr .1 ≡ s .entry .ptr .1 + startOf (now (s .entry)) (envelopeSpan (now (s .entry)) which .at) (envelopeSpan (now (s .entry)) which .len)) ⌝ }
 {
     wire::part(s, span_of(read(s), which))
+}
+
+// The form that an envelope's keys make.
+pub fn form_of(envelope: Envelope) -> Form
+    ensures { λ r. ⌜ r ≡ formOf envelope ⌝ }
+{
+    let bodies = envelope.bodies;
+    let head = envelope.head;
+    if (bodies.l1key.len == 0) & (bodies.l2key.len == 0) {
+        return Form::Keyless;
+    }
+    if is_public(head.flags) {
+        return Form::Public;
+    }
+    if bodies.l2key.len == 0 {
+        return Form::L1Only;
+    }
+    if bodies.l1key.len == 0 {
+        return Form::L2Only;
+    }
+    Form::Both
 }
 
 // Where a body stands, or 0 and 0 on a refusal.
@@ -321,16 +339,12 @@ pub fn write(
         agreeparams.len(),
     );
     let len = capped(first, domain.len(), forest.len(), l1key.len(), l2key.len());
-    let checks = judge_given(
-        len,
-        head,
-        kdf,
-        agreement,
-        domain,
-        forest,
-        l1key.len(),
-        l2key.len(),
-    );
+    let at = head.at;
+    let checks = Outcome::Accepted
+        .refuse_if(LIMIT < len, Refusal::TooLong)
+        .refuse_if(at.index_above_31(), Refusal::IndexAbove31)
+        .then(judge_texts(kdf, agreement, domain, forest))
+        .then(judge_keys(head, l1key.len(), l2key.len()));
     let answer = fitted(checks, len, out.len());
     if let Written::Length(_) = answer {
         put(
@@ -354,30 +368,6 @@ fn capped(len: usize, a: usize, b: usize, c: usize, d: usize) -> usize
     ensures { λ r. ⌜ r ≡ min (len + a + b + c + d) 65536 ⌝ }
 {
     grown(grown(grown(grown(len, a), b), c), d)
-}
-
-// The checks that can apply to what the writer is given.
-fn judge_given(
-    len: usize,
-    head: Head,
-    kdf: &[u8],
-    agreement: &[u8],
-    domain: &[u8],
-    forest: &[u8],
-    l1: usize,
-    l2: usize,
-) -> Outcome
-    ensures { λ r. ⌜ r ≡ firstOf (givenChecks len head (now (kdf .entry)) (now (agreement .entry)) (now (domain .entry)) (now (forest .entry)) l1 l2) ⌝ }
-{
-    let at = head.at;
-    Outcome::Accepted
-        .refuse_if(LIMIT < len, Refusal::TooLong)
-        .refuse_if(at.index_above_31(), Refusal::IndexAbove31)
-        .refuse_if(!text::is_text(kdf), Refusal::MalformedText)
-        .refuse_if(!text::is_text(agreement), Refusal::MalformedText)
-        .refuse_if(!text::is_text(domain), Refusal::MalformedText)
-        .refuse_if(!text::is_text(forest), Refusal::MalformedText)
-        .refuse_if(breaks_key_rule(head, l1, l2), Refusal::KeyLength)
 }
 
 // The head, and each body into its own part of the output.

@@ -1,26 +1,21 @@
 -- Laws of the decision: what an accepted answer shows, and what its request asks for.
-use Prim.Native.Nat.{ℕ, _<_, _^_}
-use mathlib.Core.Bool.{Bool, false, not, cond}
-use mathlib.Core.List.{List}
-use mathlib.Core.Path.{_≡_, refl, sym, _∙_}
-use lib.ListN.{length}
-use Rattle.refusal.specs.declared.Outcome.{Outcome}
+use Rattle.lemmas.proofs.Basics.{ℕ, _^_, _<_, Bool, false, cond, not, List, _≡_, refl, sym, _∙_, length}
 use Rattle.refusal.specs.declared.Outcome.the-variants as outcome
-use Rattle.refusal.specs.Chain.{firstOf}
-use Rattle.refusal.proofs.Chains.{accepted-pass, pass-accepted}
-use Rattle.refusal.proofs.Numbers.{number-not-zero}
+use Rattle.refusal.specs.Chain.{firstOf, unlessRefused}
+use Rattle.refusal.proofs.Chains.{accepted-pass, pass-accepted, unless-zero}
 use Rattle.gkid.specs.declared.FileTime.{FileTime}
 use Rattle.gkid.specs.declared.Gkid.{Gkid}
 use Rattle.gkid.specs.Conversion.{gkidAt}
+use Rattle.gkid.proofs.Times.{up-to-now}
 use Rattle.getkey.specs.declared.Rights.{Rights}
 use Rattle.request.specs.declared.Request.{Request}
 use Rattle.request.specs.declared.Asked.the-variants.{Latest, Named}
-use Rattle.getkey.specs.declared.Answer.{Answer}
+use Rattle.getkey.specs.declared.Answer.the-variants.{Refused}
 use Rattle.request.specs.Indices.{outOfRange, mixed, laterThanNow, names, namedOf, askedOf}
 use Rattle.roottable.specs.Rows.{tableWrong}
-use Rattle.getkey.specs.Deciding.{rightsTooLow, checks, granting, unlessRefused, decision, Starts, answerNumber}
+use Rattle.getkey.specs.Deciding.{rightsTooLow, checks, granting, decision, Starts, answerNumber}
 use Rattle.getkey.specs.Waiting.{Accepted}
-use Rattle.request.proofs.Requests.{Asks, latest, named, asks, up-to-now}
+use Rattle.request.proofs.Requests.{Asks, latest, named, asks}
 
 -- what checks that are passed say of a request
 pub record Passed (verdict : Bool) (rights : Rights) (q : Request) (present : Gkid) (len : ℕ) : Type 0 where
@@ -65,9 +60,6 @@ passed-decided verdict rights q t table p = record { checked = p; is = rw (passe
 
 pub accepted-decided : (verdict : Bool) (rights : Rights) (q : Request) (t : FileTime) (table : List ℕ) → Accepted (decision verdict rights q t table)
     → Decided verdict rights q t table
-unfolding decision unlessRefused answerNumber
-accepted-decided verdict rights q t table e = passed-decided verdict rights q t table (passed verdict rights q (gkidAt t) (length table) (of _ _ e))
-  where
-    of : (o : Outcome) (answer : Answer) → Accepted (unlessRefused o answer) → o ≡ outcome.Accepted
-    of outcome.Accepted answer e = refl
-    of (outcome.Refused r) answer e = absurd (number-not-zero r e)
+unfolding decision answerNumber
+accepted-decided verdict rights q t table e =
+    passed-decided verdict rights q t table (passed verdict rights q (gkidAt t) (length table) (unless-zero answerNumber Refused (λ r. refl) _ _ e .0))

@@ -1,14 +1,9 @@
 -- Demand 3, waiting loses nothing. One descriptor verdict, one request and one root table are put to the decision twice, the second time
 -- with a clock reading no lower and with rights no lower. Nothing else is assumed.
-use Prim.Native.Nat.{ℕ, _≤_}
-use native.Mathlib.Omega.{arith}
-use mathlib.Core.Bool.{Bool, true, false, true≢false}
-use mathlib.Core.List.{List}
-use mathlib.Core.Path.{_≡_, refl, sym, _∙_}
-use borrow.Author.Tests.{not-true}
+use Rattle.lemmas.proofs.Basics.{ℕ, _≤_, arith, Bool, true, false, true≢false, List, _≡_, refl, sym, _∙_, not-true}
 use Rattle.refusal.specs.declared.Refusal.the-variants.{NoRootKey}
 use Rattle.refusal.specs.Number.{outcomeNumber}
-use Rattle.refusal.proofs.Cases.{both-true}
+use Rattle.lemmas.proofs.Cases.{both-true}
 use Rattle.refusal.proofs.Numbers.{number-not-zero}
 use Rattle.gkid.specs.declared.FileTime.{FileTime}
 use Rattle.gkid.specs.declared.Gkid.{Gkid}
@@ -16,10 +11,10 @@ use Rattle.gkid.specs.Identifier.{later}
 use Rattle.gkid.specs.Conversion.{gkidAt}
 use Rattle.gkid.proofs.Order.{later-transitive}
 use Rattle.gkid.proofs.Times.{reading-in-group, reading-monotone}
-use Rattle.reach.specs.declared.Form.{Form}
-use Rattle.reach.specs.Forms.{seedForm}
+use Rattle.keys.specs.declared.Form.{Form}
+use Rattle.keys.specs.Forms.{seedForm}
 use Rattle.reach.specs.Reached.{ofGroup}
-use Rattle.reach.specs.FormReach.{reachNumber}
+use Rattle.reach.specs.Reaches.{keysReach, reachNumber}
 use Rattle.reach.proofs.ReachLaws.{group-is, is-group}
 use Rattle.reach.proofs.SeedLaws.{seed-accepted, seed-bits, seed-total}
 use Rattle.getkey.specs.declared.Rights.{Rights}
@@ -120,7 +115,7 @@ module _ (verdict : Bool) (q : Request) (table : List ℕ) where
   -- "Whenever a request that names an identifier is accepted, the granted form reaches exactly the identifiers of that L0 group up to the
   -- granted one, total 32·L1 + L2 + 1."
   pub reaches-up-to : (r : Rights) (t : FileTime) → names q ≡ true → Accepted (decision verdict r q t table) → ReachesUpTo (decision verdict r q t table)
-  unfolding reachedBy reachNumber outcomeNumber
+  unfolding reachedBy keysReach reachNumber outcomeNumber
   reaches-up-to r t one e =
       let a = named-answer r t one e in
       let at = answerAt (decision verdict r q t table) in

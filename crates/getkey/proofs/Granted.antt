@@ -1,28 +1,13 @@
 -- Laws of the identifier granted: for a named one it is of its L0 group and not before it, and a later clock grants none that is earlier.
-use Prim.Native.Nat.{_≤_}
-use native.Mathlib.Omega.{arith}
-use mathlib.Core.Bool.{false, cond}
-use mathlib.Core.Path.{_≡_, refl, sym, _∙_}
-use lib.Dec.{ltb}
-use borrow.Author.Tests.{ltb-true, ltb-false, le-ltb, lt-ltb}
-use Rattle.refusal.proofs.Cases.{by-cases, cond-cases}
+use Rattle.lemmas.proofs.Basics.{arith, false, cond, _≡_, refl, ltb, lt-ltb, ltb-true, ltb-false}
+use Rattle.lemmas.proofs.Cases.{by-cases, cond-cases}
 use Rattle.gkid.specs.declared.Gkid.{Gkid}
 use Rattle.gkid.specs.Identifier.{gkid, InGroup, later}
-use Rattle.gkid.proofs.Order.{ordinal, later-ordinal, later-total}
+use Rattle.gkid.proofs.Order.{up-to-ordinal, ordinal-up-to, up-to-itself}
 use Rattle.request.specs.declared.Root.{Root}
 use Rattle.request.specs.declared.Root.the-variants as root
 use Rattle.request.specs.declared.Asked.the-variants.{Named}
 use Rattle.getkey.specs.Deciding.{grantedAt}
-
--- up to, by the ordinals
-pub up-to-ordinal : (i j : Gkid) → InGroup i → InGroup j → later i j ≡ false → ordinal i ≤ ordinal j
-up-to-ordinal i j g h e = ltb-false (ordinal j) (ordinal i) (sym (later-ordinal i j g h) ∙ e)
-
-pub ordinal-up-to : (i j : Gkid) → InGroup i → InGroup j → ordinal i ≤ ordinal j → later i j ≡ false
-ordinal-up-to i j g h l = later-ordinal i j g h ∙ le-ltb (ordinal j) (ordinal i) l
-
-pub up-to-itself : (i : Gkid) → later i i ≡ false
-up-to-itself i = by-cases (λ t. t ≡ false) (later i i) (λ e. sym e ∙ later-total i i e) (λ _. refl)
 
 -- what is granted for a named identifier that is not later than now
 pub record Group (i at : Gkid) : Type 0 where

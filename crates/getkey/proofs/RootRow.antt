@@ -1,19 +1,13 @@
--- The root row of the decision, once 16 to 20 are ruled out: the row granted is the one that the rule names, CREATE is answered exactly
+-- The root row of the decision, once every check but 19 is passed: the row granted is the one that the rule names, CREATE is answered exactly
 -- for an empty table, no root and all -1, and 19 exactly if there is no such row.
-use Prim.Native.Nat.{ℕ, _%_}
-use native.Mathlib.Omega.{arith}
-use mathlib.Core.Bool.{Bool, false, not, true≢false}
-use mathlib.Core.List.{List, [], _∷_}
-use mathlib.Core.Path.{_≡_, refl}
-use lib.Dec.{eqb}
-use lib.ListN.{length}
-use borrow.Author.Tests.{eqb-true, not-false}
+use Rattle.lemmas.proofs.Basics.{ℕ, _%_, arith, Bool, false, not, true≢false, List, [], _∷_, _≡_, refl, eqb, length, eqb-true}
+use borrow.Author.Tests.{not-false}
 use Rattle.refusal.specs.declared.Refusal.the-variants.{NoRootKey}
-use Rattle.refusal.proofs.Cases.{or-false}
+use Rattle.lemmas.proofs.Cases.{or-false}
 use Rattle.gkid.specs.declared.FileTime.{FileTime}
 use Rattle.gkid.specs.declared.Gkid.{Gkid}
 use Rattle.gkid.specs.Conversion.{gkidAt}
-use Rattle.reach.specs.declared.Form.{Form}
+use Rattle.keys.specs.declared.Form.{Form}
 use Rattle.getkey.specs.declared.Rights.{Rights}
 use Rattle.request.specs.declared.Root.{Root}
 use Rattle.request.specs.declared.Root.the-variants as root

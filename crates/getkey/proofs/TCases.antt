@@ -1,12 +1,9 @@
 -- Document 01, "Bench cases": the T cases on times, start times and the decision, in one table; and an accepted answer of each kind of
 -- request.
-use Prim.Native.Nat.{ℕ}
-use mathlib.Core.Bool.{Bool, true, false}
-use mathlib.Core.List.{List, [], _∷_, _++_, map}
-use mathlib.Core.Path.{_≡_, refl}
+use Rattle.lemmas.proofs.Basics.{ℕ, Bool, true, false, List, [], _∷_, _++_, map, _≡_, refl}
 use lib.IntN.{ℤ, pos, negsuc}
 use Rattle.refusal.specs.Number.{numberOf}
-use Rattle.refusal.specs.Chain.{firstOf}
+use Rattle.refusal.specs.Chain.{firstOf, unlessRefused}
 use Rattle.wire.specs.Numbers.{leOf, leBytes, beOf, beBytes}
 use Rattle.wire.specs.Parts.{partOf, beAt}
 use Rattle.gkid.specs.declared.FileTime.{FileTime}
@@ -16,14 +13,14 @@ use Rattle.gkid.specs.Conversion.{gkidAt}
 use Rattle.gkid.specs.Start.{startOf, startNumber, startShown}
 use Rattle.rootid.specs.declared.RootId.{RootId}
 use Rattle.rootid.specs.Root.{rootAt, rootBytes, sameRoot}
-use Rattle.reach.specs.declared.Form.{Form}
-use Rattle.reach.specs.declared.Form.the-variants as form
-use Rattle.reach.specs.KeyRule.{keysAllowed, l1KeyAllowed, l2KeyAllowed}
-use Rattle.reach.specs.Forms.{keysOf, seedForm}
+use Rattle.keys.specs.declared.Form.{Form}
+use Rattle.keys.specs.declared.Form.the-variants as form
+use Rattle.keys.specs.KeyRule.{keysAllowed, l1KeyAllowed, l2KeyAllowed, keyChecks}
+use Rattle.keys.specs.Forms.{keysOf, seedForm, seedChecks}
 use Rattle.reach.specs.Reached.{ofGroup, l1Reaches, l2Reaches, reaches}
 use Rattle.reach.specs.Bits.{bitAt, bit, rowWhere, count, table}
 use Rattle.reach.specs.Maps.{rowOf, mapOf, emptyMap, totalOf}
-use Rattle.reach.specs.FormReach.{seedOutcome, shown, formReach}
+use Rattle.reach.specs.Reaches.{keysReach, refusedReach, formReach, reachTotal}
 use Rattle.getkey.specs.declared.Rights.the-variants.{Seed}
 use Rattle.request.specs.declared.Root.{Root}
 use Rattle.request.specs.declared.Root.the-variants as root
@@ -32,7 +29,7 @@ use Rattle.getkey.specs.declared.Answer.{Answer}
 use Rattle.request.specs.Indices.{below, outside, outOfRange, unset, mixed, laterThenZ, laterThanNow, names, natural, namedOf, askedOf}
 use Rattle.roottable.specs.Rows.{tableWrong, rowAt, suitable, rank}
 use Rattle.roottable.specs.Selection.{every, orElse, firstWhere, firstHighest, chosenRow}
-use Rattle.getkey.specs.Deciding.{rightsTooLow, checks, grantedAt, formFor, wantedOf, withoutRow, withRow, granting, unlessRefused, decision, answerNumber, answerAt, answerForm, answerCreates}
+use Rattle.getkey.specs.Deciding.{rightsTooLow, checks, grantedAt, formFor, wantedOf, withoutRow, withRow, granting, decision, answerNumber, answerAt, answerForm, answerCreates}
 
 -- now, (5, 3, 7); a root; a table of one row, in use since 3, made at 4
 unfoldable pub clock : FileTime
@@ -60,7 +57,7 @@ pub data Question : Type 0 where
   ask : Request → Question
 
 unfoldable pub shownOf : Answer → Shown
-shownOf a = decided (answerNumber a) (answerAt a) (answerForm a) (totalOf (formReach (answerForm a) (answerAt a) .rows))
+shownOf a = decided (answerNumber a) (answerAt a) (answerForm a) (reachTotal (formReach (answerForm a) (answerAt a)))
 
 -- seed rights and a suitable root
 unfoldable pub reply : Question → Shown
@@ -91,7 +88,7 @@ cases =
 
 -- Each is answered as the table says.
 pub t-cases : map (λ c. reply (c .0)) cases ≡ map (λ c. c .1) cases
-unfolding clock id rows asking reply shownOf cases startOf startNumber startShown numberOf firstOf leOf leBytes beOf beBytes partOf beAt indexAbove31 gkidAt rootAt rootBytes sameRoot keysAllowed l1KeyAllowed l2KeyAllowed keysOf seedForm ofGroup l1Reaches l2Reaches reaches bitAt bit rowWhere count table rowOf mapOf emptyMap totalOf seedOutcome shown formReach below outside outOfRange unset mixed laterThenZ laterThanNow names natural namedOf askedOf tableWrong rowAt suitable rank every orElse firstWhere firstHighest chosenRow rightsTooLow checks grantedAt formFor wantedOf withoutRow withRow granting unlessRefused decision answerNumber answerAt answerForm
+unfolding clock id rows asking reply shownOf cases startOf startNumber startShown numberOf firstOf leOf leBytes beOf beBytes partOf beAt indexAbove31 gkidAt rootAt rootBytes sameRoot keysAllowed l1KeyAllowed l2KeyAllowed keysOf seedForm ofGroup l1Reaches l2Reaches reaches bitAt bit rowWhere count table rowOf mapOf emptyMap totalOf seedChecks keyChecks keysReach refusedReach formReach reachTotal below outside outOfRange unset mixed laterThenZ laterThanNow names natural namedOf askedOf tableWrong rowAt suitable rank every orElse firstWhere firstHighest chosenRow rightsTooLow checks grantedAt formFor wantedOf withoutRow withRow granting unlessRefused decision answerNumber answerAt answerForm
 t-cases = refl
 
 -- An accepted answer of each kind of request: root given or not, and all -1 or named; and CREATE. So nothing that is shown of accepted

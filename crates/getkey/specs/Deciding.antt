@@ -5,18 +5,16 @@ use mathlib.Core.List.{List, [], _∷_}
 use lib.Dec.{ltb}
 use lib.ListN.{length}
 use Rattle.refusal.specs.declared.Refusal.the-variants.{VerdictNo, IndexOutOfRange, MixedIndices, LaterThanNow, RightsTooLow, TableLength, NoRootKey}
-use Rattle.refusal.specs.declared.Outcome.{Outcome}
-use Rattle.refusal.specs.declared.Outcome.the-variants as outcome
-use Rattle.refusal.specs.Chain.{Check, _⇒_, firstOf}
+use Rattle.refusal.specs.Chain.{Check, _⇒_, firstOf, unlessRefused}
 use Rattle.refusal.specs.Number.{numberOf}
 use Rattle.gkid.specs.declared.FileTime.{FileTime}
 use Rattle.gkid.specs.declared.Gkid.{Gkid}
 use Rattle.gkid.specs.Identifier.{gkid, InGroup}
 use Rattle.gkid.specs.Conversion.{gkidAt}
 use Rattle.gkid.specs.Start.{startTime}
-use Rattle.reach.specs.declared.Form.{Form}
-use Rattle.reach.specs.declared.Form.the-variants as form
-use Rattle.reach.specs.Forms.{seedForm}
+use Rattle.keys.specs.declared.Form.{Form}
+use Rattle.keys.specs.declared.Form.the-variants as form
+use Rattle.keys.specs.Forms.{seedForm}
 use Rattle.getkey.specs.declared.Rights.{Rights}
 use Rattle.getkey.specs.declared.Rights.the-variants as rights
 use Rattle.request.specs.declared.Root.{Root}
@@ -79,18 +77,14 @@ unfoldable pub withRow : Found → Root → Asked → Gkid → Form → Answer
 withRow (found.Row k) root asked at form = Granted at form k
 withRow found.None root asked at form = withoutRow root asked at form
 
--- what is granted once 16 to 20 are ruled out
+-- what is granted once every check but 19 is passed
 unfoldable pub granting : Rights → Root → Asked → Gkid → List ℕ → Answer
 granting rights root asked present table =
     withRow (chosenRow (wantedOf root asked) table) root asked (grantedAt asked root present) (formFor rights (grantedAt asked root present))
 
-unfoldable pub unlessRefused : Outcome → Answer → Answer
-unlessRefused outcome.Accepted answer = answer
-unlessRefused (outcome.Refused r) answer = Refused r
-
 unfoldable pub decision : Bool → Rights → Request → FileTime → List ℕ → Answer
 decision verdict rights q clock table =
-    unlessRefused (firstOf (checks verdict rights q (gkidAt clock) (length table))) (granting rights (q .root) (askedOf q) (gkidAt clock) table)
+    unlessRefused Refused (firstOf (checks verdict rights q (gkidAt clock) (length table))) (granting rights (q .root) (askedOf q) (gkidAt clock) table)
 
 -- the start of what is named, as 64 bits hold it
 abbrev pub Starts : Asked → Type 0

@@ -5,8 +5,7 @@ use mathlib.Core.Path.{_≡_}
 use Rattle.gkid.specs.declared.Gkid.{Gkid}
 use Rattle.gkid.specs.Identifier.{later}
 use Rattle.reach.specs.Reached.{ofGroup}
-use Rattle.reach.specs.Maps.{inMap, totalOf}
-use Rattle.reach.specs.FormReach.{formReach, reachNumber}
+use Rattle.reach.specs.Reaches.{formReach, reachNumber, reachTotal, reachedIn}
 use Rattle.getkey.specs.declared.Rights.{Rights}
 use Rattle.getkey.specs.declared.Rights.the-variants.{None, Public, Seed}
 use Rattle.getkey.specs.declared.Answer.{Answer}
@@ -36,10 +35,10 @@ pub record NoWorse (first second : Answer) : Type 0 where
 -- the granted form's reach is asked at the granted identifier; an identifier is reached if it is of the granted one's L0 group and the
 -- map's bit in row L1 at index L2 is set
 unfoldable pub reachedBy : Answer → Gkid → Bool
-reachedBy answer i = inMap (answerAt answer) (formReach (answerForm answer) (answerAt answer) .rows) i
+reachedBy answer i = reachedIn (answerAt answer) (formReach (answerForm answer) (answerAt answer)) i
 
 -- not refused, exactly the identifiers of that L0 group up to the granted one, 32·L1 + L2 + 1 of them
 pub record ReachesUpTo (answer : Answer) : Type 0 where
   pub accepted : reachNumber (formReach (answerForm answer) (answerAt answer)) ≡ 0
   pub reached : (i : Gkid) → reachedBy answer i ≡ ofGroup (answerAt answer) i && not (later i (answerAt answer))
-  pub total : totalOf (formReach (answerForm answer) (answerAt answer) .rows) ≡ 32 * answerAt answer .l1 .0 + answerAt answer .l2 .0 + 1
+  pub total : reachTotal (formReach (answerForm answer) (answerAt answer)) ≡ 32 * answerAt answer .l1 .0 + answerAt answer .l2 .0 + 1

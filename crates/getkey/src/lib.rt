@@ -11,8 +11,8 @@ use gkid::Gkid;
 use gkid::L1;
 use gkid::L2;
 use gkid::Start;
-use reach::Form;
-use reach::seed_form;
+use keys::Form;
+use keys::seed_form;
 use refusal::Outcome;
 use refusal::Refusal;
 use request::Asked;
@@ -82,7 +82,7 @@ fn judge(verdict: bool, rights: Rights, request: Request, present: Gkid, len: us
     Outcome::Accepted
 }
 
-// What is granted once 16 to 20 are ruled out.
+// What is granted once every check but 19 is passed.
 fn grant(rights: Rights, root: Root, asked: Asked, present: Gkid, table: &[u8]) -> Answer
     requires { ⌜ Starts asked ⌝ }
     ensures { λ r. ⌜ r ≡ granting rights root asked present (now (table .entry)) ⌝ }

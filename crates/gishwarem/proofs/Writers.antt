@@ -1,15 +1,12 @@
 -- What a writer of the library ensures, carried to its answer for C.
-use Prim.Native.Nat.{ℕ}
-use mathlib.Core.Path.{_≡_, ap, _∙_}
-use mathlib.Core.List.{List}
-use lib.ListN.{length}
+use Rattle.lemmas.proofs.Basics.{ℕ, List, _≡_, ap, _∙_, length}
 use Rattle.records.specs.declared.Written.{Written}
 use Rattle.records.specs.Writing.{outputOf}
 use Rattle.envelope.specs.declared.Head.{Head}
 use Rattle.envelope.specs.Writing.{Given, envelopeBytes, Wrote}
-use Rattle.gishwarem.specs.declared.shapes.WrittenAnswer.{WrittenAnswer}
-use Rattle.gishwarem.specs.Shapes.{writtenAnswer}
-use Rattle.gishwarem.specs.Envelopes.{envelopeWritten}
+use Rattle.face.specs.declared.WrittenAnswer.{WrittenAnswer}
+use Rattle.face.specs.Shapes.{writtenAnswer}
+use Rattle.gishwarem.specs.Writing.{envelopeWritten}
 
 -- the answer and the output, where the library's answer is known
 pub laid : (bytes before : List ℕ) {r : WrittenAnswer} {w v : Written} {after : List ℕ} → r ≡ writtenAnswer w → w ≡ v

@@ -1,9 +1,1 @@
-pub mod Codes
-pub mod Shapes
-pub mod Times
-pub mod Entries
-pub mod Lists
-pub mod EfsKeys
-pub mod Envelopes
-pub mod Choices
-pub mod Decisions
+pub mod Writing

@@ -4,54 +4,18 @@ ghost use lib.ListN.{length};
 ghost use Rattle.records.specs.Writing.{outputOf};
 ghost use Rattle.efskey.specs.Reading.{keyOf};
 ghost use Rattle.efskey.specs.Writing.{keyBytes, keyWritten};
-ghost use Rattle.gishwarem.specs.Shapes.{writtenAnswer};
-ghost use Rattle.gishwarem.specs.EfsKeys.{keyAnswer};
-use crate::shapes::Part;
-use crate::shapes::WrittenAnswer;
-use crate::shapes::to_part;
-use crate::shapes::to_written;
-use efskey::KeyRead;
-use efskey::SidHint;
-
-// An EfsKey. The kind of its SID is 1 for a SID, 0 for none.
-#[repr(C)]
-pub struct KeyAnswer {
-    pub refusal: u32,
-    pub kind: u32,
-    pub sid: Part,
-    pub certificate: Part,
-}
+ghost use Rattle.face.specs.Shapes.{writtenAnswer};
+ghost use Rattle.face_efskeys.specs.EfsKeys.{keyAnswer};
+use face::WrittenAnswer;
+use face::to_written;
+use face_efskeys::KeyAnswer;
+use face_efskeys::key_answer;
 
 #[no_mangle]
 pub extern "C" fn gw_efskey_read(s: &[u8]) -> KeyAnswer
     ensures { λ r. ⌜ r ≡ keyAnswer (keyOf (now (s .entry))) ⌝ }
 {
-    match efskey::read(s) {
-        KeyRead::Key(key) => {
-            let sid = key.sid;
-            let certificate = key.certificate;
-            match sid {
-                SidHint::Sid(span) => KeyAnswer {
-                    refusal: 0,
-                    kind: 1,
-                    sid: to_part(span),
-                    certificate: to_part(certificate),
-                },
-                SidHint::None => KeyAnswer {
-                    refusal: 0,
-                    kind: 0,
-                    sid: Part { at: 0, len: 0 },
-                    certificate: to_part(certificate),
-                },
-            }
-        }
-        KeyRead::Refused(refusal) => KeyAnswer {
-            refusal: refusal.number(),
-            kind: 0,
-            sid: Part { at: 0, len: 0 },
-            certificate: Part { at: 0, len: 0 },
-        },
-    }
+    key_answer(efskey::read(s))
 }
 
 #[no_mangle]

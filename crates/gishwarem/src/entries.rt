@@ -1,51 +1,30 @@
-// Document 01, "Key List Entry and list", for C: the entry, read and written.
+// Document 01, "Key List Entry and list", for C: the entry, read and written; the list judged whole, and one step of its walk.
 ghost use mathlib.Core.Path.{_≡_};
 ghost use lib.ListN.{length};
 ghost use Rattle.records.specs.Writing.{outputOf};
 ghost use Rattle.keyentry.specs.Reading.{entryOf};
 ghost use Rattle.keyentry.specs.Writing.{entryBytes};
-ghost use Rattle.gishwarem.specs.Shapes.{writtenAnswer};
-ghost use Rattle.gishwarem.specs.Entries.{entryAnswer, entryWritten};
-use crate::codes::algorithm_code;
-use crate::shapes::Part;
-use crate::shapes::WrittenAnswer;
-use crate::shapes::to_part;
-use crate::shapes::to_written;
-use keyentry::EntryRead;
-
-// An entry. Its algorithm is 1 for RSA, 2 for AES-256, 3 for one that is not supported.
-#[repr(C)]
-pub struct EntryAnswer {
-    pub refusal: u32,
-    pub algorithm: u32,
-    pub flags: u32,
-    pub reserved: u32,
-    pub item: Part,
-    pub fek: Part,
-}
+ghost use Rattle.keylist.specs.Reading.{listOf};
+ghost use Rattle.keylist.specs.Stepping.{advanceOf};
+ghost use Rattle.face.specs.Shapes.{writtenAnswer};
+ghost use Rattle.face_entries.specs.Entries.{entryAnswer};
+ghost use Rattle.face_entries.specs.Lists.{listAnswer, stepAnswer};
+ghost use Rattle.gishwarem.specs.Writing.{entryWritten};
+use face::WrittenAnswer;
+use face::to_written;
+use face_entries::EntryAnswer;
+use face_entries::ListAnswer;
+use face_entries::StepAnswer;
+use face_entries::entry_answer;
+use face_entries::list_answer;
+use face_entries::step_answer;
+use keylist::Place;
 
 #[no_mangle]
 pub extern "C" fn gw_entry_read(s: &[u8]) -> EntryAnswer
     ensures { λ r. ⌜ r ≡ entryAnswer (entryOf (now (s .entry))) ⌝ }
 {
-    match keyentry::read(s) {
-        EntryRead::Accepted(entry) => EntryAnswer {
-            refusal: 0,
-            algorithm: algorithm_code(entry.algorithm()),
-            flags: entry.flags,
-            reserved: 0,
-            item: to_part(entry.item),
-            fek: to_part(entry.fek),
-        },
-        EntryRead::Refused(refusal) => EntryAnswer {
-            refusal: refusal.number(),
-            algorithm: 0,
-            flags: 0,
-            reserved: 0,
-            item: Part { at: 0, len: 0 },
-            fek: Part { at: 0, len: 0 },
-        },
-    }
+    entry_answer(keyentry::read(s))
 }
 
 #[no_mangle]
@@ -59,4 +38,19 @@ pub extern "C" fn gw_entry_write(
     ensures output { λ _. ⌜ now (out .exit) ≡ outputOf (entryWritten flags (now (item .entry)) (now (fek .entry)) (length (now (out .entry)))) (entryBytes flags (now (item .entry)) (now (fek .entry))) (now (out .entry)) ⌝ }
 {
     to_written(keyentry::write(out, flags, item, fek))
+}
+
+#[no_mangle]
+pub extern "C" fn gw_list_judge(list: &[u8]) -> ListAnswer
+    ensures { λ r. ⌜ r ≡ listAnswer (listOf (now (list .entry))) ⌝ }
+{
+    list_answer(keylist::judge(list))
+}
+
+// The walk starts at offset 4 and index 0, and goes on at the next place that a step answers.
+#[no_mangle]
+pub extern "C" fn gw_list_step(list: &[u8], at: usize, index: u32) -> StepAnswer
+    ensures { λ r. ⌜ r ≡ stepAnswer (advanceOf (now (list .entry)) (record { at = at; index = index })) ⌝ }
+{
+    step_answer(keylist::next_step(list, Place { at, index }))
 }

@@ -1,17 +1,12 @@
 -- Laws of the next older identifier: it is the greatest of its L0 group below the one asked, and (L0, 0, 0) has none.
-use Prim.Native.Nat.{ℕ, _+_}
-use native.Mathlib.Omega.{arith}
-use mathlib.Core.Bool.{true, false}
-use mathlib.Core.Path.{_≡_, refl, sym, _∙_}
-use lib.Dec.{ltb}
-use borrow.Author.Tests.{ltb-true, ltb-false, lt-ltb, le-ltb}
+use Rattle.lemmas.proofs.Basics.{ℕ, _+_, arith, true, false, _≡_, refl, sym, _∙_, ltb, lt-ltb, le-ltb, ltb-true, ltb-false}
 use Rattle.refusal.specs.declared.Refusal.the-variants.{IndexAbove31}
 use Rattle.gkid.specs.declared.Gkid.{Gkid}
 use Rattle.gkid.specs.declared.Older.{Older}
 use Rattle.gkid.specs.declared.Older.the-variants.{Is, None, Refused}
 use Rattle.gkid.specs.Identifier.{gkid, indexAbove31, InGroup, later}
 use Rattle.gkid.specs.Older.{olderOf}
-use Rattle.refusal.proofs.Cases.{cond-cases}
+use Rattle.lemmas.proofs.Cases.{cond-cases}
 use Rattle.gkid.proofs.Order.{in-group, ordinal, later-ordinal}
 
 -- j is earlier than i and of its L0 group, and nothing in the group that is earlier than i is later than j

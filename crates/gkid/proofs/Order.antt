@@ -1,14 +1,9 @@
 -- Laws of identifiers: of two, one is up to the other; up to is transitive and antisymmetric; 5 is the index rule; and where L1
 -- and L2 are at most 31, the order is that of the ordinals.
-use Prim.Native.Nat.{ℕ, _+_, _*_, _≤_, _<_}
-use native.Mathlib.Omega.{arith}
-use mathlib.Core.Bool.{Bool, true, false, _||_, true≢false, false≢true}
-use mathlib.Core.Path.{_≡_, refl, sym}
-use lib.Dec.{ltb, eqb}
-use borrow.Author.Tests.{ltb-true, ltb-false, eqb-true, eqb-false, lt-ltb, le-ltb}
+use Rattle.lemmas.proofs.Basics.{ℕ, _+_, _*_, _≤_, _<_, arith, Bool, true, false, _||_, true≢false, false≢true, _≡_, refl, sym, _∙_, ltb, eqb, lt-ltb, le-ltb, ltb-true, ltb-false, eqb-true, eqb-false}
 use Rattle.gkid.specs.declared.Gkid.{Gkid}
 use Rattle.gkid.specs.Identifier.{gkid, indexAbove31, InGroup, laterThen, later}
-use Rattle.refusal.proofs.Cases.{by-cases, cond-cases}
+use Rattle.lemmas.proofs.Cases.{by-cases, cond-cases}
 
 -- two indices compare in three ways
 then-cases : (a b : ℕ) (next : Bool) (P : Bool → Type 0) → (a < b → P false) → (a ≡ b → P next) → (b < a → P true) → P (laterThen a b next)
@@ -100,3 +95,13 @@ pub ordinal-injective : (i j : Gkid) → InGroup i → InGroup j → ordinal i �
 ordinal-injective i j p q e =
     let same : (i .l0 .0 ≡ j .l0 .0) × ((i .l1 .0 ≡ j .l1 .0) × (i .l2 .0 ≡ j .l2 .0)) = omega arith in
     λ n. gkid (same .0 n) (same .1 .0 n) (same .1 .1 n)
+
+-- up to, by the ordinals
+pub up-to-ordinal : (i j : Gkid) → InGroup i → InGroup j → later i j ≡ false → ordinal i ≤ ordinal j
+up-to-ordinal i j g h e = ltb-false (ordinal j) (ordinal i) (sym (later-ordinal i j g h) ∙ e)
+
+pub ordinal-up-to : (i j : Gkid) → InGroup i → InGroup j → ordinal i ≤ ordinal j → later i j ≡ false
+ordinal-up-to i j g h l = later-ordinal i j g h ∙ le-ltb (ordinal j) (ordinal i) l
+
+pub up-to-itself : (i : Gkid) → later i i ≡ false
+up-to-itself i = by-cases (λ t. t ≡ false) (later i i) (λ e. sym e ∙ later-total i i e) (λ _. refl)

@@ -1,10 +1,5 @@
 -- Laws of the conversion of readings and of start times.
-use Prim.Native.Nat.{_+_, _/_, _^_, _≤_, _<_}
-use native.Mathlib.Omega.{arith}
-use mathlib.Core.Bool.{false, cond}
-use mathlib.Core.Path.{_≡_, refl, sym, subst, _∙_}
-use lib.Dec.{leb, ltb}
-use borrow.Author.Tests.{ltb-true, ltb-false, le-ltb, le-leb, lt-leb}
+use Rattle.lemmas.proofs.Basics.{_+_, _/_, _^_, _≤_, _<_, arith, false, cond, _≡_, refl, sym, subst, _∙_, ltb, leb, le-ltb, ltb-true, ltb-false, le-leb, lt-leb}
 use Rattle.refusal.specs.declared.Refusal.{Refusal}
 use Rattle.refusal.specs.declared.Refusal.the-variants.{IndexAbove31, StartPastTime}
 use Rattle.gkid.specs.declared.FileTime.{FileTime}
@@ -14,8 +9,8 @@ use Rattle.gkid.specs.declared.Start.the-variants.{At, Refused}
 use Rattle.gkid.specs.Identifier.{indexAbove31, InGroup, later}
 use Rattle.gkid.specs.Conversion.{l2Step, gkidAt, highest}
 use Rattle.gkid.specs.Start.{startTime, startOf, startShown}
-use Rattle.refusal.proofs.Cases.{by-cases, cond-cases, cond-else}
-use Rattle.gkid.proofs.Order.{in-group, not-above, ordinal, later-ordinal, ordinal-injective}
+use Rattle.lemmas.proofs.Cases.{by-cases, cond-cases, cond-else}
+use Rattle.gkid.proofs.Order.{in-group, not-above, ordinal, later-ordinal, ordinal-injective, up-to-ordinal}
 
 -- Beside a refusal's number stands zero.
 pub refused-zero : (r : Refusal) → startShown (Refused r) ≡ 0
@@ -86,3 +81,10 @@ pub start-converted : (i : Gkid) (s : FileTime) → startOf i ≡ At s → gkidA
 start-converted i s e =
     let h : Says i (At s) = subst (Says i) e (says i) in
     ordinal-injective (gkidAt s) i (reading-in-group s) (h .0) (omega (arith, reading-ordinal s))
+
+-- An identifier up to now starts within 64 bits.
+pub up-to-now : (i : Gkid) (t : FileTime) → t .0 < 2 ^ 64 → InGroup i → later i (gkidAt t) ≡ false → startTime i < 2 ^ 64
+up-to-now i t h g e =
+    let order = up-to-ordinal i (gkidAt t) g (reading-in-group t) e in
+    let steps = reading-ordinal t in
+    omega arith

@@ -68,7 +68,7 @@ impl Gkid {
     pub fn index_above_31(self) -> bool
         ensures { λ r. ⌜ r ≡ indexAbove31 self ⌝ }
     {
-        self.l1.0 > 31 || self.l2.0 > 31
+        (self.l1.0 > 31) | (self.l2.0 > 31)
     }
 
     // Identifiers compare by L0, then L1, then L2.

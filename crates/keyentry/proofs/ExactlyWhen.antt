@@ -1,30 +1,12 @@
 -- An entry is accepted exactly when it is well formed, as MS-EFSR 2.2.2.1.2 states it, narrowed by document 01.
-use Prim.Native.Nat.{ℕ, _+_, _-_, _≤_, _<_, min, max}
-use native.Mathlib.Nat.{min-comm, max-comm}
-use native.Mathlib.Omega.{arith}
-use mathlib.Core.Bool.{Bool, false, not}
-use mathlib.Core.List.{List}
-use mathlib.Core.Logic.{_⊎_, inl, inr, ⊎-elim}
-use mathlib.Core.Path.{_≡_, refl, ap}
-use lib.Dec.{ltb, leb}
-use lib.ListN.{length}
-use borrow.Author.Tests.{ltb-true, ltb-false, le-ltb, leb-true, leb-false, eqb-true, eqb-false, eq-eqb, ne-eqb}
-use Rattle.refusal.specs.declared.Outcome.{Outcome}
-use Rattle.refusal.specs.declared.Outcome.the-variants as outcome
-use Rattle.refusal.proofs.Cases.{by-cases, not-false}
-use Rattle.refusal.proofs.Chains.{accepted-pass, pass-accepted}
-use Rattle.refusal.proofs.Numbers.{number-not-zero}
-use Rattle.keyentry.specs.declared.Entry.{Entry}
-use Rattle.keyentry.specs.Layout.{publicKeyAt, publicKeyLength, fekAt, fekLength, layoutChecks, runBefore, runBetween, runAfter, overlap}
-use Rattle.keyentry.specs.Reading.{entryChecks, shown, answer, entryOf, entryNumber}
+use Rattle.lemmas.proofs.Basics.{ℕ, _+_, _-_, _≤_, _<_, min, max, arith, min-comm, max-comm, Bool, false, not, List, _⊎_, inl, inr, ⊎-elim, _≡_, ap, ltb, leb, length, le-ltb, ltb-true, ltb-false, leb-true, leb-false, eq-eqb, ne-eqb, eqb-true, eqb-false}
+use Rattle.lemmas.proofs.Cases.{by-cases, not-false}
+use Rattle.refusal.specs.Chain.{unlessRefused}
+use Rattle.keyentry.specs.Layout.{publicKeyAt, publicKeyLength, fekAt, fekLength, runBefore, runBetween, runAfter, overlap}
+use Rattle.keyentry.specs.Reading.{entryOf, entryNumber}
 use Rattle.keyentry.specs.WellFormed.{Of, Apart, Used, WellFormed}
+use Rattle.keyentry.proofs.Reading.{accepted-checks, passed, passes}
 use Rattle.keyentry.proofs.Tests.{inside, not-outside, one-first, item-first, fek-first, short-runs, no-long-run}
-
--- an answer's number is 0 where the outcome is accepted, and only there
-pub number-accepted : (o : Outcome) (e : Entry) → entryNumber (answer o e) ≡ 0 → o ≡ outcome.Accepted
-unfolding entryNumber answer
-number-accepted outcome.Accepted e z = refl
-number-accepted (outcome.Refused r) e z = absurd (number-not-zero r z)
 
 -- the runs where the items (p, n) and (f, e) stand in this order
 ordered : (p n f e L : ℕ) → 0 < e → p + n ≤ f → (runBefore p f ≡ p - 20) × (runBetween p n f e ≡ f - (p + n)) × (runAfter p n f e L ≡ L - (f + e))
@@ -65,25 +47,24 @@ some-of h = omega arith
 
 -- Accepted, so well formed.
 pub accepted-well-formed : (s : List ℕ) → entryNumber (entryOf s) ≡ 0 → WellFormed s
-unfolding entryOf entryChecks layoutChecks
 accepted-well-formed s z =
     let L = length s in
     let p = publicKeyAt s in
     let n = publicKeyLength s in
     let f = fekAt s in
     let e = fekLength s in
-    let t = accepted-pass (entryChecks s) (number-accepted _ (shown s) z) in
-    let item-start = inside p 4 L (t .1 .1 .1 .0) in
-    let whole = ltb-false n 4 (t .1 .1 .1 .1 .0) in
-    let item-end = ltb-false L (p + n) (t .1 .1 .1 .1 .1 .0) in
-    let some : 0 < e = omega (arith, eqb-false e 0 (t .1 .1 .1 .1 .1 .1 .0)) in
-    let fek = inside f e L (t .1 .1 .1 .1 .1 .1 .1 .0) in
-    let order = one-first p n f e (t .1 .1 .1 .1 .1 .1 .1 .1 .0) in
-    let runs = short-runs p n f e L (t .1 .1 .1 .1 .1 .1 .1 .1 .1 .0) in
+    let t = passed s (accepted-checks s z) in
+    let item-start = inside p 4 L (t .own-length) in
+    let whole = ltb-false n 4 (t .whole) in
+    let item-end = ltb-false L (p + n) (t .item-end) in
+    let some : 0 < e = omega (arith, eqb-false e 0 (t .fek-some)) in
+    let fek = inside f e L (t .fek) in
+    let order = one-first p n f e (t .apart) in
+    let runs = short-runs p n f e L (t .runs) in
     record {
-      limit = ltb-false 65535 L (t .0);
-      head = ltb-false L 20 (t .1 .0);
-      length-is = eqb-true _ L (not-false _ (t .1 .1 .0));
+      limit = ltb-false 65535 L (t .limit);
+      head = ltb-false L 20 (t .head);
+      length-is = eqb-true _ L (not-false _ (t .length-is));
       own-length = item-start;
       whole = whole;
       public-key = (item-start .0, item-end);
@@ -121,7 +102,7 @@ used-runs s p n f e start some order more end used = rw (ordered p n f e (length
 
 -- Well formed, so accepted.
 pub well-formed-accepted : (s : List ℕ) → WellFormed s → entryNumber (entryOf s) ≡ 0
-unfolding entryOf entryNumber answer entryChecks layoutChecks
+unfolding entryOf entryNumber unlessRefused
 well-formed-accepted s w =
     let L = length s in
     let p = publicKeyAt s in
@@ -135,38 +116,18 @@ well-formed-accepted s w =
     (λ o. turned f e p n L (used-runs s f e p n (w .fek .0) (w .fek-some) o (some-of (w .whole)) (w .public-key .1) (λ from low high. swapped f e p n from (w .used from low high))))
     order
     in
-    rw
-    (pass-accepted (entryChecks s) (
-      le-ltb 65535 L (w .limit),
-      (
-        le-ltb L 20 (w .head),
-        (
-          ap not (eq-eqb _ L (w .length-is)),
-          (
-            not-outside p 4 L (w .own-length .0) (w .own-length .1),
-            (
-              le-ltb n 4 (w .whole),
-              (
-                le-ltb L (p + n) (w .public-key .1),
-                (
-                  ne-eqb e 0 (λ z. some-not z (w .fek-some)),
-                  (
-                    not-outside f e L (w .fek .0) (w .fek .1),
-                    (
-                      overlaps,
-                      (
-                        no-long-run p n f e L (runs .0) (runs .1) (runs .2),
-                        tt,
-                      ),
-                    ),
-                  ),
-                ),
-              ),
-            ),
-          ),
-        ),
-      ),
-    ))
+    rw (passes s (record {
+      limit = le-ltb 65535 L (w .limit);
+      head = le-ltb L 20 (w .head);
+      length-is = ap not (eq-eqb _ L (w .length-is));
+      own-length = not-outside p 4 L (w .own-length .0) (w .own-length .1);
+      whole = le-ltb n 4 (w .whole);
+      item-end = le-ltb L (p + n) (w .public-key .1);
+      fek-some = ne-eqb e 0 (λ z. some-not z (w .fek-some));
+      fek = not-outside f e L (w .fek .0) (w .fek .1);
+      apart = overlaps;
+      runs = no-long-run p n f e L (runs .0) (runs .1) (runs .2);
+    }))
   where
     some-not : {e : ℕ} → e ≡ 0 → 0 < e → ⊥
     some-not z h = omega arith

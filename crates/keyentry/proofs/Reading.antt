@@ -1,29 +1,29 @@
 -- Laws of the reader's answer.
-use Prim.Native.Nat.{ℕ, _≤_, _<_}
-use mathlib.Core.List.{List}
-use native.Mathlib.Omega.{arith}
-use mathlib.Core.Path.{_≡_, refl, sym, ap, _∙_}
-use lib.ListN.{length}
-use borrow.Author.Tests.{lt-ltb, le-ltb}
+use Rattle.lemmas.proofs.Basics.{ℕ, _+_, _≤_, _<_, arith, false, not, List, _≡_, refl, sym, ap, _∙_, ltb, eqb, length, lt-ltb, le-ltb}
 use Rattle.refusal.specs.declared.Outcome.{Outcome}
 use Rattle.refusal.specs.declared.Outcome.the-variants as outcome
 use Rattle.refusal.specs.declared.Refusal.{Refusal}
 use Rattle.refusal.specs.declared.Refusal.the-variants.{TooLong, Short}
-use Rattle.refusal.specs.Chain.{firstOf}
-use Rattle.refusal.proofs.Chains.{first-here, first-next}
+use Rattle.refusal.specs.Chain.{firstOf, unlessRefused}
+use Rattle.refusal.proofs.Chains.{accepted-pass, pass-accepted, first-here, first-next, unless-zero}
 use Rattle.wire.specs.Parts.{leAt}
 use Rattle.keyentry.specs.declared.Entry.{Entry}
+use Rattle.keyentry.specs.declared.EntryRead.{EntryRead}
 use Rattle.keyentry.specs.declared.EntryRead.the-variants.{Accepted, Refused}
-use Rattle.keyentry.specs.Layout.{lengthField, publicKeyAt, publicKeyLength, fekAt, fekLength, flagsOf, layoutChecks}
-use Rattle.keyentry.specs.Reading.{entryChecks, shown, answer, entryOf}
+use Rattle.keyentry.specs.Layout.{lengthField, publicKeyAt, publicKeyLength, fekAt, fekLength, flagsOf, outside, overlap, longRun, layoutChecks}
+use Rattle.keyentry.specs.Reading.{entryChecks, shown, entryOf, entryNumber}
+
+-- the answer of an outcome
+abbrev pub answer : Outcome → Entry → EntryRead
+answer o e = unlessRefused Refused o (Accepted e)
 
 -- 1 and 2 come first; after them the layout's checks are the answer.
 pub entry-long : (s : List ℕ) → 65535 < length s → entryOf s ≡ Refused TooLong
-unfolding entryOf entryChecks answer
+unfolding entryOf entryChecks unlessRefused
 entry-long s h = ap (λ o. answer o (shown s)) (first-here _ _ _ (lt-ltb 65535 (length s) h))
 
 pub entry-short : (s : List ℕ) → length s ≤ 65535 → length s < 20 → entryOf s ≡ Refused Short
-unfolding entryOf entryChecks answer
+unfolding entryOf entryChecks unlessRefused
 entry-short s l h = ap (λ o. answer o (shown s)) (first-next _ _ _ (le-ltb 65535 (length s) l) ∙ first-here _ _ _ (lt-ltb (length s) 20 h))
 
 pub entry-layout : (s : List ℕ) → length s ≤ 65535 → 20 ≤ length s
@@ -41,7 +41,7 @@ entry-judged s l h is-field is-p is-n is-e is-f is-flags judged = rw (entry-layo
 
 -- What an answer tells of the checks: accepted with what is shown, or refused by the first that applies.
 pub accepted-shown : (s : List ℕ) (e : Entry) → entryOf s ≡ Accepted e → (firstOf (entryChecks s) ≡ outcome.Accepted) × (e ≡ shown s)
-unfolding entryOf answer
+unfolding entryOf unlessRefused
 accepted-shown s e = told (firstOf (entryChecks s))
   where
     told : (o : Outcome) → answer o (shown s) ≡ Accepted e → (o ≡ outcome.Accepted) × (e ≡ shown s)
@@ -49,7 +49,7 @@ accepted-shown s e = told (firstOf (entryChecks s))
     told (outcome.Refused r) h = let z : _≡_ {A = ℕ} 0 1 = cc in absurd (omega arith)
 
 pub refused-checks : (s : List ℕ) (r : Refusal) → entryOf s ≡ Refused r → firstOf (entryChecks s) ≡ outcome.Refused r
-unfolding entryOf answer
+unfolding entryOf unlessRefused
 refused-checks s r = told (firstOf (entryChecks s))
   where
     told : (o : Outcome) → answer o (shown s) ≡ Refused r → o ≡ outcome.Refused r
@@ -58,5 +58,47 @@ refused-checks s r = told (firstOf (entryChecks s))
 
 -- Where no check applies, the answer is what is shown.
 pub pass-shown : (s : List ℕ) → firstOf (entryChecks s) ≡ outcome.Accepted → entryOf s ≡ Accepted (shown s)
-unfolding entryOf answer
+unfolding entryOf unlessRefused
 pass-shown s e = rw e
+
+-- An accepted entry: no check applies.
+pub accepted-checks : (s : List ℕ) → entryNumber (entryOf s) ≡ 0 → firstOf (entryChecks s) ≡ outcome.Accepted
+unfolding entryOf entryNumber
+accepted-checks s z = unless-zero entryNumber Refused (λ r. refl) (firstOf (entryChecks s)) _ z .0
+
+-- what checks that are passed say of an entry
+pub record Passed (s : List ℕ) : Type 0 where
+  pub limit : ltb 65535 (length s) ≡ false
+  pub head : ltb (length s) 20 ≡ false
+  pub length-is : not (eqb (lengthField s) (length s)) ≡ false
+  pub own-length : outside (publicKeyAt s) 4 (length s) ≡ false
+  pub whole : ltb (publicKeyLength s) 4 ≡ false
+  pub item-end : ltb (length s) (publicKeyAt s + publicKeyLength s) ≡ false
+  pub fek-some : eqb (fekLength s) 0 ≡ false
+  pub fek : outside (fekAt s) (fekLength s) (length s) ≡ false
+  pub apart : overlap (publicKeyAt s) (publicKeyLength s) (fekAt s) (fekLength s) ≡ false
+  pub runs : longRun (publicKeyAt s) (publicKeyLength s) (fekAt s) (fekLength s) (length s) ≡ false
+
+pub passed : (s : List ℕ) → firstOf (entryChecks s) ≡ outcome.Accepted → Passed s
+unfolding entryChecks layoutChecks
+passed s e =
+    let p = accepted-pass (entryChecks s) e in
+    let item = p .1 .1 .1 in
+    let fek = item .1 .1 .1 in
+    record {
+      limit = p .0;
+      head = p .1 .0;
+      length-is = p .1 .1 .0;
+      own-length = item .0;
+      whole = item .1 .0;
+      item-end = item .1 .1 .0;
+      fek-some = fek .0;
+      fek = fek .1 .0;
+      apart = fek .1 .1 .0;
+      runs = fek .1 .1 .1 .0;
+    }
+
+pub passes : (s : List ℕ) → Passed s → firstOf (entryChecks s) ≡ outcome.Accepted
+unfolding entryChecks layoutChecks
+passes s p =
+    pass-accepted (entryChecks s) (p .limit, (p .head, (p .length-is, (p .own-length, (p .whole, (p .item-end, (p .fek-some, (p .fek, (p .apart, (p .runs, tt))))))))))

@@ -1,12 +1,6 @@
 -- Laws of the layout's tests: each fails exactly where the plain fact holds.
-use Prim.Native.Nat.{ℕ, _+_, _-_, _≤_, _<_, min, max}
-use native.Mathlib.Omega.{arith}
-use mathlib.Core.Bool.{true, false, not, _||_}
-use mathlib.Core.Logic.{_⊎_, inl, inr}
-use mathlib.Core.Path.{_≡_, refl, ap, _∙_}
-use lib.Dec.{ltb, leb}
-use borrow.Author.Tests.{ltb-true, ltb-false, lt-ltb, le-ltb, le-leb, leb-true}
-use Rattle.refusal.proofs.Cases.{by-cases, or-false, false-or, not-false}
+use Rattle.lemmas.proofs.Basics.{ℕ, _+_, _-_, _≤_, _<_, min, max, arith, true, false, not, _||_, _⊎_, inl, inr, _≡_, refl, ap, _∙_, ltb, leb, lt-ltb, le-ltb, ltb-true, ltb-false, le-leb, leb-true}
+use Rattle.lemmas.proofs.Cases.{by-cases, or-false, false-or, not-false}
 use Rattle.keyentry.specs.Layout.{outside, overlap, runBefore, runBetween, runAfter, longRun}
 
 pub inside : (p n L : ℕ) → outside p n L ≡ false → (20 ≤ p) × (p + n ≤ L)

@@ -1,16 +1,9 @@
 -- Laws of the writer: what its bytes read as, which checks can apply to them, and that they read back as given.
-use Prim.Native.Nat.{ℕ, _+_, _≤_, _<_, _^_, min}
-use native.Mathlib.Omega.{arith}
-use mathlib.Core.Bool.{not}
-use mathlib.Core.List.{List, [], _∷_, _++_, map, append-assoc, append-nil}
-use mathlib.Core.Path.{_≡_, refl, sym, ap, _∙_}
-use lib.Dec.{eqb}
-use lib.ListN.{length, length-append}
-use borrow.Author.Tests.{le-ltb, lt-ltb, eq-eqb, ltb-false, eqb-true}
+use Rattle.lemmas.proofs.Basics.{ℕ, _+_, _^_, _≤_, _<_, min, arith, not, List, [], _∷_, _++_, map, append-nil, append-assoc, _≡_, refl, sym, ap, _∙_, ltb, eqb, length, length-append, lt-ltb, le-ltb, ltb-false, eq-eqb, eqb-true}
 use Rattle.refusal.specs.declared.Outcome.the-variants as outcome
-use Rattle.refusal.specs.declared.Refusal.the-variants.{TooLong, EmptyItem}
-use Rattle.refusal.specs.Chain.{_⇒_, firstOf}
-use Rattle.refusal.proofs.Cases.{not-false}
+use Rattle.refusal.specs.declared.Refusal.the-variants.{TooLong, LengthsDisagree, EmptyItem}
+use Rattle.refusal.specs.Chain.{Check, _⇒_, firstOf, unlessRefused}
+use Rattle.lemmas.proofs.Cases.{not-false}
 use Rattle.refusal.proofs.Chains.{accepted-pass, pass-accepted, first-here, first-next, first-after}
 use Rattle.records.specs.declared.Written.the-variants.{Length}
 use Rattle.records.specs.Writing.{writtenOf}
@@ -23,8 +16,8 @@ use Rattle.wire.proofs.Writing.{head-bodies, length-le32Bytes}
 use Rattle.keyentry.specs.declared.EntryRead.the-variants.{Accepted}
 use Rattle.keyentry.specs.declared.EntryPart.the-variants.{PublicKey, Fek}
 use Rattle.keyentry.specs.Layout.{lengthField, publicKeyAt, publicKeyLength, fekAt, fekLength, flagsOf, layoutChecks}
-use Rattle.keyentry.specs.Reading.{entryChecks, entryOf, answer, shown, spanOf, entryPart}
-use Rattle.keyentry.specs.Writing.{entryLength, entryBytes, writeChecks, partChecks}
+use Rattle.keyentry.specs.Reading.{entryChecks, entryOf, shown, spanOf, entryPart}
+use Rattle.keyentry.specs.Writing.{entryLength, entryBytes, writeChecks}
 use Rattle.keyentry.proofs.Tests.{not-outside, item-first, no-long-run}
 
 -- the numbers of the head
@@ -87,9 +80,18 @@ straight a b some =
     ∙ first-next _ _ _ (item-first 20 a (20 + a) b (omega arith))
     ∙ first-next _ _ _ (no-long-run 20 a (20 + a) b L (omega arith) (omega arith) (omega arith)))
 
+-- the checks that can apply to what was given, with a length of len
+abbrev pub partChecks : ℕ → List ℕ → List ℕ → List Check
+partChecks len item fek =
+    (ltb 65535 len ⇒ TooLong)
+    ∷ (ltb (length item) 4 ⇒ EmptyItem)
+    ∷ (not (eqb (leAt 4 item 0) (length item)) ⇒ LengthsDisagree)
+    ∷ (eqb (length fek) 0 ⇒ EmptyItem)
+    ∷ []
+
 -- Of the reader's checks on the bytes only 7 can apply, for an empty FEK.
 pub write-checks : (flags : ℕ) (item fek : List ℕ) → firstOf (writeChecks flags item fek) ≡ firstOf (partChecks (entryLength item fek) item fek)
-unfolding writeChecks partChecks entryChecks
+unfolding writeChecks entryChecks
 write-checks flags item fek =
     first-after _ _ _ _ (λ q. let fits = ltb-false 65535 (entryLength item fek) q in
     first-after _ _ _ _ (λ r. let some = ltb-false (length item) 4 r in
@@ -108,7 +110,7 @@ write-checks flags item fek =
 -- The answer from the capped length, as the code has it.
 pub answer-is : (flags : ℕ) (item fek : List ℕ) (room len : ℕ) → len ≡ min (min (20 + length item) 65536 + length fek) 65536
     → writtenOf (firstOf (partChecks len item fek)) len room ≡ writtenOf (firstOf (writeChecks flags item fek)) (entryLength item fek) room
-unfolding partChecks writeChecks
+unfolding writeChecks
 answer-is flags item fek room len e =
     let capped : len ≡ min (entryLength item fek) 65536 = omega arith in
     let checks : firstOf (partChecks (min (entryLength item fek) 65536) item fek) ≡ firstOf (writeChecks flags item fek) =
@@ -132,7 +134,7 @@ pub record ReadsBack (flags : ℕ) (item fek : List ℕ) : Type 0 where
   pub fek-bytes : entryPart (entryBytes flags item fek) Fek ≡ fek
 
 pub reads-back : (flags : ℕ) (item fek : List ℕ) → flags < 2 ^ 32 → firstOf (writeChecks flags item fek) ≡ outcome.Accepted → ReadsBack flags item fek
-unfolding writeChecks entryOf answer shown spanOf entryBytes pieces joined leBytes
+unfolding writeChecks entryOf unlessRefused shown spanOf entryBytes pieces joined leBytes
 reads-back flags item fek small accepted =
     let t = accepted-pass (writeChecks flags item fek) accepted in
     let fits = ltb-false 65535 (entryLength item fek) (t .0) in

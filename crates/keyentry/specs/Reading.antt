@@ -4,10 +4,8 @@ use mathlib.Core.List.{List, _∷_}
 use mathlib.Core.Bool.{cond}
 use lib.Dec.{ltb, eqb}
 use lib.ListN.{length}
-use Rattle.refusal.specs.declared.Outcome.{Outcome}
-use Rattle.refusal.specs.declared.Outcome.the-variants as outcome
 use Rattle.refusal.specs.declared.Refusal.the-variants.{TooLong, Short}
-use Rattle.refusal.specs.Chain.{Check, _⇒_, firstOf}
+use Rattle.refusal.specs.Chain.{Check, _⇒_, firstOf, unlessRefused}
 use Rattle.refusal.specs.Number.{numberOf}
 use Rattle.wire.specs.declared.Span.{Span}
 use Rattle.wire.specs.Parts.{partOf}
@@ -36,13 +34,9 @@ shown s =
       fek = record { at = fekAt s; len = fekLength s };
     }
 
-unfoldable pub answer : Outcome → Entry → EntryRead
-answer outcome.Accepted e = Accepted e
-answer (outcome.Refused r) e = Refused r
-
 -- what the reader answers
 unfoldable pub entryOf : List ℕ → EntryRead
-entryOf s = answer (firstOf (entryChecks s)) (shown s)
+entryOf s = unlessRefused Refused (firstOf (entryChecks s)) (Accepted (shown s))
 
 -- Flags never refuse: 0 is RSA, 1 is AES-256, others are unsupported
 unfoldable pub algorithmOf : ℕ → Algorithm

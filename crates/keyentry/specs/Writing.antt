@@ -34,12 +34,3 @@ writeChecks flags item fek =
     ∷ (ltb (length item) 4 ⇒ EmptyItem)
     ∷ (not (eqb (leAt 4 item 0) (length item)) ⇒ LengthsDisagree)
     ∷ entryChecks (entryBytes flags item fek)
-
--- what of these can apply to an entry of len bytes: of the reader's checks only 7, for an empty FEK (the law is `write-checks`)
-unfoldable pub partChecks : ℕ → List ℕ → List ℕ → List Check
-partChecks len item fek =
-    (ltb 65535 len ⇒ TooLong)
-    ∷ (ltb (length item) 4 ⇒ EmptyItem)
-    ∷ (not (eqb (leAt 4 item 0) (length item)) ⇒ LengthsDisagree)
-    ∷ (eqb (length fek) 0 ⇒ EmptyItem)
-    ∷ []

@@ -8,7 +8,7 @@ ghost use Rattle.wire.specs.Parts.{startOf, onto};
 ghost use Rattle.records.specs.Writing.{writtenOf, outputOf};
 ghost use Rattle.keyentry.specs.Layout.{outside, overlap, longRun, layoutChecks};
 ghost use Rattle.keyentry.specs.Reading.{entryOf, algorithmOf, spanOf, entrySpan, entryPart};
-ghost use Rattle.keyentry.specs.Writing.{entryLength, entryBytes, writeChecks, partChecks};
+ghost use Rattle.keyentry.specs.Writing.{entryLength, entryBytes, writeChecks};
 use records::LIMIT;
 use records::Written;
 use records::fitted;
@@ -193,31 +193,25 @@ fn span_of(read: EntryRead, which: EntryPart) -> Span
     }
 }
 
-// Writes an entry: 1, 7, 3, then as the reader would say of the bytes, then 13.
+// Writes an entry: 1, 7, 3, then as the reader would say of the bytes, which is 7 for an empty FEK; then 13.
 pub fn write(out: &mut [u8], flags: u32, item: &[u8], fek: &[u8]) -> Written
     ensures answer { λ r. ⌜ r ≡ writtenOf (firstOf (writeChecks flags (now (item .entry)) (now (fek .entry)))) (entryLength (now (item .entry)) (now (fek .entry))) (length (now (out .entry))) ⌝ }
     ensures output { λ r. ⌜ now (out .exit) ≡ outputOf r (entryBytes flags (now (item .entry)) (now (fek .entry))) (now (out .entry)) ⌝ }
 {
     let len = grown(grown(20, item.len()), fek.len());
-    let answer = fitted(judge_parts(len, item, fek), len, out.len());
-    if let Written::Length(_) = answer {
-        put(out, flags, item, fek);
-    }
-    answer
-}
-
-// The checks that can apply to what the writer is given.
-fn judge_parts(len: usize, item: &[u8], fek: &[u8]) -> Outcome
-    ensures { λ r. ⌜ r ≡ firstOf (partChecks len (now (item .entry)) (now (fek .entry))) ⌝ }
-{
-    Outcome::Accepted
+    let checks = Outcome::Accepted
         .refuse_if(LIMIT < len, Refusal::TooLong)
         .refuse_if(item.len() < 4, Refusal::EmptyItem)
         .refuse_if(
             le32_at(item, 0) as usize != item.len(),
             Refusal::LengthsDisagree,
         )
-        .refuse_if(fek.len() == 0, Refusal::EmptyItem)
+        .refuse_if(fek.len() == 0, Refusal::EmptyItem);
+    let answer = fitted(checks, len, out.len());
+    if let Written::Length(_) = answer {
+        put(out, flags, item, fek);
+    }
+    answer
 }
 
 // The head, and each body into its own part of the output.

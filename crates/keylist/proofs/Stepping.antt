@@ -1,25 +1,20 @@
 -- Laws of a step: what each of its tests makes of it, and what it leaves to the steps after it.
-use Prim.Native.Nat.{ℕ, suc, _+_, _-_, _≤_, _<_}
-use native.Mathlib.Omega.{arith}
-use mathlib.Core.Bool.{true, cond, _||_}
-use mathlib.Core.List.{List}
-use mathlib.Core.Path.{_≡_, refl, sym, ap, subst, _∙_}
-use lib.Dec.{ltb, eqb}
-use lib.ListN.{length, take, drop}
-use native.Mathlib.Nat.{add-sub-cancel-left}
-use borrow.Author.Tests.{ltb-true, ltb-false, lt-ltb, le-ltb}
+use Rattle.lemmas.proofs.Basics.{ℕ, suc, _+_, _-_, _≤_, _<_, arith, cond, List, _≡_, refl, sym, ap, subst, _∙_, ltb, eqb, length, lt-ltb, le-ltb, ltb-true, ltb-false}
 use Rattle.refusal.specs.declared.Outcome.{Outcome}
 use Rattle.refusal.specs.declared.Outcome.the-variants as outcome
 use Rattle.refusal.specs.declared.Refusal.{Refusal}
-use Rattle.refusal.specs.declared.Refusal.the-variants.{TooLong, Short, LengthsDisagree}
-use Rattle.refusal.specs.Chain.{firstOf}
-use Rattle.refusal.proofs.Cases.{cond-cases, false-or}
-use Rattle.refusal.proofs.Chains.{first-here, first-next, accepted-pass, pass-accepted}
-use Rattle.wire.proofs.Parts.{part-in}
+use Rattle.refusal.specs.declared.Refusal.the-variants.{TooLong, Short}
+use Rattle.refusal.specs.Chain.{firstOf, unlessRefused}
+use Rattle.lemmas.proofs.Cases.{cond-cases, or-false}
+use Rattle.refusal.proofs.Chains.{first-here, first-next, accepted-pass, pass-accepted, first-append, append-accepted}
+use Rattle.wire.specs.declared.Span.{Span}
+use Rattle.wire.specs.Parts.{partOf}
 use Rattle.keyentry.specs.declared.Entry.{Entry}
 use Rattle.keyentry.specs.declared.EntryRead.the-variants as entry
-use Rattle.keyentry.specs.Reading.{entryChecks, entryOf}
+use Rattle.keyentry.specs.Reading.{entryChecks, shown, entryOf}
 use Rattle.keyentry.proofs.Reading.{accepted-shown, refused-checks, pass-shown}
+use Rattle.keylist.specs.declared.Bounds.{Bounds}
+use Rattle.keylist.specs.declared.Bounds.the-variants as bounds
 use Rattle.keylist.specs.declared.Place.{Place}
 use Rattle.keylist.specs.declared.Found.{Found}
 use Rattle.keylist.specs.declared.Step.{Step}
@@ -27,11 +22,16 @@ use Rattle.keylist.specs.declared.Step.the-variants as step
 use Rattle.keylist.specs.declared.Advance.{Advance}
 use Rattle.keylist.specs.declared.ListRead.{ListRead}
 use Rattle.keylist.specs.declared.ListRead.the-variants as list
-use Rattle.keylist.specs.Reading.{countOf, listChecks, lengthAt, recordAt, placeChecks, unlessRefused, entriesFrom}
-use Rattle.keylist.specs.Stepping.{foundAt, stepUnless, endAt, entryStep, stepOf, placeAfter, arrived, advanceOf}
+use Rattle.keylist.specs.Reading.{countOf, listChecks, lengthAt, recordAt, extentChecks, extentOf, placeChecks, entriesFrom}
+use Rattle.keylist.specs.Passing.{judgedAt}
+use Rattle.keylist.specs.Stepping.{foundAt, endAt, entryStep, stepOf, placeAfter, arrived, advanceOf}
+
+-- the step of an outcome
+abbrev stepUnless : Outcome → ℕ → Step → Step
+stepUnless o index found = unlessRefused (λ r. step.Refused r index) o found
 
 refused-step : {o : Outcome} {r : Refusal} (index : ℕ) (found : Step) → o ≡ outcome.Refused r → stepUnless o index found ≡ step.Refused r index
-unfolding stepUnless
+unfolding unlessRefused
 refused-step index found e = rw e
 
 -- 1 and 2 of the whole list, and neither.
@@ -43,52 +43,81 @@ pub step-short : (s : List ℕ) (p : Place) → length s ≤ 65535 → length s 
 unfolding stepOf listChecks
 step-short s p l h = refused-step 0 _ (first-next _ _ _ (le-ltb 65535 (length s) l) ∙ first-here _ _ _ (lt-ltb (length s) 4 h))
 
-within : (s : List ℕ) → length s ≤ 65535 → 4 ≤ length s → firstOf (listChecks s) ≡ outcome.Accepted
+pub within : (s : List ℕ) → length s ≤ 65535 → 4 ≤ length s → firstOf (listChecks s) ≡ outcome.Accepted
 unfolding listChecks
 within s l h = pass-accepted (listChecks s) (le-ltb 65535 (length s) l, (le-ltb (length s) 4 h, tt))
 
 pub step-entry : (s : List ℕ) (p : Place) → length s ≤ 65535 → 4 ≤ length s → p .index < countOf s → stepOf s p ≡ entryStep s p
-unfolding stepOf stepUnless
+unfolding stepOf unlessRefused
 step-entry s p l h i = rw (within s l h, lt-ltb (p .index) (countOf s) i)
 
 pub step-end : (s : List ℕ) (p : Place) → length s ≤ 65535 → 4 ≤ length s → countOf s ≤ p .index → stepOf s p ≡ endAt s (p .at)
-unfolding stepOf stepUnless
+unfolding stepOf unlessRefused
 step-end s p l h i = rw (within s l h, le-ltb (p .index) (countOf s) i)
 
--- An entry: 2, 3, and else what its reader says of its record.
-pub entry-short : (s : List ℕ) (p : Place) → length s - p .at < 20 → entryStep s p ≡ step.Refused Short (p .index)
-unfolding entryStep placeChecks
-entry-short s p h = refused-step (p .index) _ (first-here _ _ _ (lt-ltb (length s - p .at) 20 h))
+-- the answer of an outcome at a place, and what it tells
+abbrev atPlace : List ℕ → ℕ → Outcome → Bounds
+atPlace s at o = unlessRefused bounds.Refused o (bounds.Record (record { at = at; len = lengthAt s at }))
 
-pub entry-length : (s : List ℕ) (p : Place) → 20 ≤ length s - p .at → ltb (lengthAt s (p .at)) 20 || ltb (length s - p .at) (lengthAt s (p .at)) ≡ true
-    → entryStep s p ≡ step.Refused LengthsDisagree (p .index)
-unfolding entryStep placeChecks
-entry-length s p l h = refused-step (p .index) _ (first-next _ _ _ (le-ltb (length s - p .at) 20 l) ∙ first-here _ _ _ h)
+told-record : (s : List ℕ) (at : ℕ) (span : Span) (o : Outcome) → atPlace s at o ≡ bounds.Record span → (o ≡ outcome.Accepted) × (span ≡ record { at = at; len = lengthAt s at })
+unfolding unlessRefused
+told-record s at span outcome.Accepted h = (refl, cc)
+told-record s at span (outcome.Refused r) h = let z : _≡_ {A = ℕ} 0 1 = cc in absurd (omega arith)
 
-module _ (s : List ℕ) (p : Place) (left : 20 ≤ length s - p .at) (low : 20 ≤ lengthAt s (p .at)) (high : lengthAt s (p .at) ≤ length s - p .at) where
-  entry-read : firstOf (placeChecks s (p .at)) ≡ firstOf (entryChecks (recordAt s (p .at)))
-  unfolding placeChecks
-  entry-read = first-next _ _ _ (le-ltb (length s - p .at) 20 left) ∙ first-next _ _ _ (false-or (le-ltb _ 20 low) (le-ltb (length s - p .at) _ high))
+told-refused : (s : List ℕ) (at : ℕ) (r : Refusal) (o : Outcome) → atPlace s at o ≡ bounds.Refused r → o ≡ outcome.Refused r
+unfolding unlessRefused
+told-refused s at r outcome.Accepted h = let z : _≡_ {A = ℕ} 0 1 = cc in absurd (omega arith)
+told-refused s at r (outcome.Refused q) h = ap outcome.Refused (cc)
 
-  record-is : recordAt s (p .at) ≡ take (p .at + lengthAt s (p .at) - p .at) (drop (p .at) s)
-  record-is = part-in s (p .at) (lengthAt s (p .at)) (omega arith) ∙ ap (λ n. take n (drop (p .at) s)) (sym (add-sub-cancel-left (p .at) (lengthAt s (p .at))))
+-- What the list rule told of a place.
+pub record Lies (s : List ℕ) (at : ℕ) (span : Span) : Type 0 where
+  pub checked : firstOf (extentChecks s at) ≡ outcome.Accepted
+  pub is : span ≡ record { at = at; len = lengthAt s at }
+  pub low : 20 ≤ lengthAt s at
+  pub high : lengthAt s at ≤ length s - at
 
-  pub entered-accepted : (e : Entry) → entryOf (take (p .at + lengthAt s (p .at) - p .at) (drop (p .at) s)) ≡ entry.Accepted e
-      → arrived s p (entryStep s p)
-      ≡ record { step = step.Entry (record { index = p .index; at = p .at; entry = e }); place = record { at = p .at + lengthAt s (p .at); index = p .index + 1 } }
-  unfolding arrived entryStep stepUnless placeAfter foundAt
-  entered-accepted e h =
-      let told = accepted-shown (recordAt s (p .at)) e (ap entryOf record-is ∙ h) in
-      rw (entry-read ∙ told .0, told .1)
+pub lying : (s : List ℕ) (at : ℕ) (span : Span) → firstOf (extentChecks s at) ≡ outcome.Accepted → span ≡ record { at = at; len = lengthAt s at } → Lies s at span
+unfolding extentChecks
+lying s at span accepted is =
+    let lengths = or-false (ltb (lengthAt s at) 20) _ (accepted-pass (extentChecks s at) accepted .1 .0) in
+    record { checked = accepted; is = is; low = ltb-false _ 20 (lengths .0); high = ltb-false (length s - at) _ (lengths .1) }
 
-  pub entered-refused : (r : Refusal) → entryOf (take (p .at + lengthAt s (p .at) - p .at) (drop (p .at) s)) ≡ entry.Refused r
-      → arrived s p (entryStep s p) ≡ record { step = step.Refused r (p .index); place = p }
-  unfolding arrived entryStep stepUnless placeAfter
-  entered-refused r h = rw (entry-read ∙ refused-checks (recordAt s (p .at)) r (ap entryOf record-is ∙ h))
+pub lies : (s : List ℕ) (at : ℕ) (span : Span) → extentOf s at ≡ bounds.Record span → Lies s at span
+unfolding extentOf
+lies s at span e = let told = told-record s at span (firstOf (extentChecks s at)) e in lying s at span (told .0) (told .1)
+
+-- The outcome at a place: the list rule's refusal, or what the entry's reader says of its record.
+pub place-barred : (s : List ℕ) (at : ℕ) (r : Refusal) → extentOf s at ≡ bounds.Refused r → firstOf (placeChecks s at) ≡ outcome.Refused r
+unfolding extentOf unlessRefused placeChecks
+place-barred s at r e = rw (first-append (extentChecks s at) (entryChecks (recordAt s at)), told-refused s at r (firstOf (extentChecks s at)) e)
+
+module _ (s : List ℕ) (at : ℕ) (span : Span) (l : Lies s at span) where
+  place-read : firstOf (placeChecks s at) ≡ firstOf (entryChecks (recordAt s at))
+  unfolding placeChecks unlessRefused
+  place-read = first-append (extentChecks s at) (entryChecks (recordAt s at)) ∙ rw (l .checked)
+
+  record-is : entryOf (recordAt s at) ≡ entryOf (partOf s (span .at) (span .len))
+  record-is = ap (λ x. entryOf (partOf s (x .at) (x .len))) (sym (l .is))
+
+  pub place-accepted : (e : Entry) → entryOf (partOf s (span .at) (span .len)) ≡ entry.Accepted e → (firstOf (placeChecks s at) ≡ outcome.Accepted) × (e ≡ shown (recordAt s at))
+  place-accepted e h = let told = accepted-shown (recordAt s at) e (record-is ∙ h) in (place-read ∙ told .0, told .1)
+
+  pub place-refused : (r : Refusal) → entryOf (partOf s (span .at) (span .len)) ≡ entry.Refused r → firstOf (placeChecks s at) ≡ outcome.Refused r
+  place-refused r h = place-read ∙ refused-checks (recordAt s at) r (record-is ∙ h)
+
+-- A step into an entry by that outcome.
+pub entered-accepted : (s : List ℕ) (p : Place) (span : Span) → Lies s (p .at) span → (e : Entry) → entryOf (partOf s (span .at) (span .len)) ≡ entry.Accepted e
+    → arrived s p (entryStep s p) ≡ record { step = step.Entry (record { index = p .index; at = p .at; entry = e }); place = record { at = p .at + span .len; index = p .index + 1 } }
+unfolding arrived entryStep unlessRefused placeAfter foundAt
+entered-accepted s p span l e h = let told = place-accepted s (p .at) span l e h in rw (told .0, told .1, l .is)
+
+pub entered-refused : (s : List ℕ) (p : Place) (r : Refusal) → firstOf (placeChecks s (p .at)) ≡ outcome.Refused r → arrived s p (entryStep s p) ≡ record { step = step.Refused r (p .index); place = p }
+unfolding arrived entryStep unlessRefused placeAfter
+entered-refused s p r e = rw e
 
 -- What is left from a place on, after the outcome of the whole list's checks.
 unfoldable pub resumed : Outcome → List ℕ → Place → ListRead
-resumed o s p = unlessRefused o 0 (entriesFrom (countOf s - p .index) s (p .at) (p .index))
+resumed o s p = unlessRefused (λ r. list.Refused r 0) o (entriesFrom (countOf s - p .index) s (p .at) (p .index))
 
 -- past an entry: it is that of the place, accepted by the entry's rule, and what is left is what is left from the next place
 pub record Past (o : Outcome) (s : List ℕ) (p : Place) (f : Found) (q : Place) : Type 0 where
@@ -110,15 +139,27 @@ one-left n m h = omega arith
 none-left : (n m : ℕ) → n ≤ m → n - m ≡ 0
 none-left n m h = omega arith
 
+-- A turn of the judge: what is left from a place on is a refusal, or what is left from the next place on.
+pub turn-refused : (s : List ℕ) (at index : ℕ) (r : Refusal) → index < countOf s → judgedAt s at ≡ bounds.Refused r → entriesFrom (countOf s - index) s at index ≡ list.Refused r index
+unfolding judgedAt entriesFrom unlessRefused
+turn-refused s at index r h e = rw (one-left (countOf s) index h, told-refused s at r (firstOf (placeChecks s at)) e)
+
+pub turn-on : (s : List ℕ) (at index : ℕ) (span : Span) → index < countOf s → judgedAt s at ≡ bounds.Record span
+    → Lies s at span × (entriesFrom (countOf s - index) s at index ≡ entriesFrom (countOf s - (index + 1)) s (at + span .len) (index + 1))
+unfolding judgedAt entriesFrom unlessRefused placeChecks
+turn-on s at index span h e =
+    let told = told-record s at span (firstOf (placeChecks s at)) e in
+    (lying s at span (append-accepted (extentChecks s at) _ (told .0) .0) (told .1), rw (one-left (countOf s) index h, told .0, told .1))
+
 says-entry : (s : List ℕ) (p : Place) → p .index < countOf s → (o : Outcome) → firstOf (placeChecks s (p .at)) ≡ o
     → Says outcome.Accepted s p (stepUnless o (p .index) (step.Entry (foundAt s p))) (placeAfter (stepUnless o (p .index) (step.Entry (foundAt s p))) s p)
-unfolding stepUnless placeAfter resumed unlessRefused entriesFrom foundAt placeChecks
+unfolding placeAfter resumed unlessRefused entriesFrom foundAt placeChecks
 says-entry s p h outcome.Accepted e =
     record {
       within = h;
       index = refl;
       found = refl;
-      judged = pass-shown (recordAt s (p .at)) (pass-accepted _ (accepted-pass (placeChecks s (p .at)) e .1 .1));
+      judged = pass-shown (recordAt s (p .at)) (append-accepted (extentChecks s (p .at)) _ e .1);
       rest = rw (one-left (countOf s) (p .index) h, e);
     }
 says-entry s p h (outcome.Refused r) e = rw (one-left (countOf s) (p .index) h, e)
@@ -132,7 +173,7 @@ says-end s p h =
 
 says : (o : Outcome) (s : List ℕ) (p : Place)
     → Says o s p (stepUnless o 0 (cond (ltb (p .index) (countOf s)) (entryStep s p) (endAt s (p .at)))) (placeAfter (stepUnless o 0 (cond (ltb (p .index) (countOf s)) (entryStep s p) (endAt s (p .at)))) s p)
-unfolding stepUnless resumed unlessRefused entryStep
+unfolding resumed unlessRefused entryStep
 says (outcome.Refused r) s p = refl
 says outcome.Accepted s p =
     cond-cases (λ t. Says outcome.Accepted s p t (placeAfter t s p)) (ltb (p .index) (countOf s))

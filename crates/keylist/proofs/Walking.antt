@@ -1,12 +1,8 @@
 -- The walk from the start shows exactly the entries that the list has, in order, each judged by the entry's rule, and ends in
 -- the judge's own answer.
-use Prim.Native.Nat.{ℕ, zero, suc, _+_, _-_, _≤_}
-use native.Mathlib.Nat.{sub-zero}
-use native.Mathlib.Omega.{arith}
-use mathlib.Core.List.{List}
-use mathlib.Core.Path.{_≡_, refl, sym, ap, subst, _∙_}
+use Rattle.lemmas.proofs.Basics.{ℕ, zero, suc, _+_, _-_, _≤_, arith, sub-zero, List, _≡_, refl, sym, ap, subst, _∙_}
 use Rattle.refusal.specs.declared.Refusal.{Refusal}
-use Rattle.refusal.specs.Chain.{firstOf}
+use Rattle.refusal.specs.Chain.{firstOf, unlessRefused}
 use Rattle.keyentry.specs.declared.EntryRead.the-variants as entry
 use Rattle.keyentry.specs.Reading.{entryOf}
 use Rattle.keylist.specs.declared.Place.{Place}
@@ -15,7 +11,7 @@ use Rattle.keylist.specs.declared.Step.{Step}
 use Rattle.keylist.specs.declared.Step.the-variants as step
 use Rattle.keylist.specs.declared.ListRead.{ListRead}
 use Rattle.keylist.specs.declared.ListRead.the-variants as list
-use Rattle.keylist.specs.Reading.{countOf, listChecks, lengthAt, recordAt, unlessRefused, entriesFrom, listOf}
+use Rattle.keylist.specs.Reading.{countOf, listChecks, lengthAt, recordAt, entriesFrom, listOf}
 use Rattle.keylist.specs.Stepping.{start, foundAt, stepOf, placeAfter, arrived, advanceOf}
 use Rattle.keylist.proofs.Stepping.{resumed, Says, stepped}
 
@@ -47,7 +43,7 @@ walk-from (suc n) s p e = walk-step s p (stepOf s p) refl (stepped s p (advanceO
 -- From the start: the entries in order, then the judge's answer.
 pub walk : (s : List ℕ) → Walks s start (listOf s)
 unfolding resumed listOf
-walk s = subst (λ n. Walks s start (unlessRefused (firstOf (listChecks s)) 0 (entriesFrom n s 4 0))) (sub-zero (countOf s)) (walk-from (countOf s) s start (sub-zero (countOf s)))
+walk s = subst (λ n. Walks s start (unlessRefused (λ r. list.Refused r 0) (firstOf (listChecks s)) (entriesFrom n s 4 0))) (sub-zero (countOf s)) (walk-from (countOf s) s start (sub-zero (countOf s)))
 
 -- At the end and at a refusal the place stays, so that asked again the step is the same again.
 pub again : (s : List ℕ) (p : Place) → ((f : Found) → stepOf s p ≡ step.Entry f → ⊥) → advanceOf s (advanceOf s p .place) ≡ advanceOf s p

@@ -2,3 +2,4 @@ pub mod Reading
 pub mod Stepping
 pub mod Walking
 pub mod WellFormed
+pub mod Passing

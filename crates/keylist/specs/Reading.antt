@@ -1,16 +1,16 @@
 -- Document 01, "Key List Entry and list": a list is a count and that many entries back to back.
 use Prim.Native.Nat.{ℕ, zero, suc, _+_, _-_}
 use mathlib.Core.Bool.{cond, _||_}
-use mathlib.Core.List.{List, [], _∷_}
+use mathlib.Core.List.{List, [], _∷_, _++_}
 use lib.Dec.{ltb, eqb}
 use lib.ListN.{length}
-use Rattle.refusal.specs.declared.Outcome.{Outcome}
-use Rattle.refusal.specs.declared.Outcome.the-variants as outcome
 use Rattle.refusal.specs.declared.Refusal.the-variants.{TooLong, Short, LengthsDisagree, BytesLeft}
-use Rattle.refusal.specs.Chain.{Check, _⇒_, firstOf}
+use Rattle.refusal.specs.Chain.{Check, _⇒_, firstOf, unlessRefused}
 use Rattle.refusal.specs.Number.{numberOf}
 use Rattle.wire.specs.Parts.{leAt, partOf}
 use Rattle.keyentry.specs.Reading.{entryChecks}
+use Rattle.keylist.specs.declared.Bounds.{Bounds}
+use Rattle.keylist.specs.declared.Bounds.the-variants as bounds
 use Rattle.keylist.specs.declared.ListRead.{ListRead}
 use Rattle.keylist.specs.declared.ListRead.the-variants.{Count, Refused}
 
@@ -28,26 +28,29 @@ lengthAt s at = leAt 4 s at
 abbrev pub recordAt : List ℕ → ℕ → List ℕ
 recordAt s at = partOf s at (lengthAt s at)
 
--- for each entry: 2 if under 20 bytes remain, 3 if its Length is below 20 or above what remains, then the entry's checks
-unfoldable pub placeChecks : List ℕ → ℕ → List Check
-placeChecks s at =
+-- the list rule for each entry: 2 if under 20 bytes remain, 3 if its Length is below 20 or above what remains
+unfoldable pub extentChecks : List ℕ → ℕ → List Check
+extentChecks s at =
     (ltb (length s - at) 20 ⇒ Short)
     ∷ (ltb (lengthAt s at) 20 || ltb (length s - at) (lengthAt s at) ⇒ LengthsDisagree)
-    ∷ entryChecks (recordAt s at)
+    ∷ []
 
--- a refusal, with the index that it tells, or what comes after
-unfoldable pub unlessRefused : Outcome → ℕ → ListRead → ListRead
-unlessRefused outcome.Accepted index rest = rest
-unlessRefused (outcome.Refused r) index rest = Refused r index
+-- where the record at a place lies, by that rule
+unfoldable pub extentOf : List ℕ → ℕ → Bounds
+extentOf s at = unlessRefused bounds.Refused (firstOf (extentChecks s at)) (bounds.Record (record { at = at; len = lengthAt s at }))
+
+-- then the entry's checks
+unfoldable pub placeChecks : List ℕ → ℕ → List Check
+placeChecks s at = extentChecks s at ++ entryChecks (recordAt s at)
 
 -- n entries from a place on, in turn; each refusal given for an entry tells its index; last 22, which tells none
 unfoldable pub entriesFrom : ℕ → List ℕ → ℕ → ℕ → ListRead
 entriesFrom zero s at index = cond (eqb at (length s)) (Count index) (Refused BytesLeft 0)
-entriesFrom (suc n) s at index = unlessRefused (firstOf (placeChecks s at)) index (entriesFrom n s (at + lengthAt s at) (index + 1))
+entriesFrom (suc n) s at index = unlessRefused (λ r. Refused r index) (firstOf (placeChecks s at)) (entriesFrom n s (at + lengthAt s at) (index + 1))
 
 -- what the judge answers: 1, 2 (which tell no index), then the entries from byte 4 on
 unfoldable pub listOf : List ℕ → ListRead
-listOf s = unlessRefused (firstOf (listChecks s)) 0 (entriesFrom (countOf s) s 4 0)
+listOf s = unlessRefused (λ r. Refused r 0) (firstOf (listChecks s)) (entriesFrom (countOf s) s 4 0)
 
 -- document 01's numbers: 0 and the count; or the refusal's number, no count, and the index told
 unfoldable pub listNumber : ListRead → ℕ

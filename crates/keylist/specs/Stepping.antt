@@ -4,10 +4,8 @@ use mathlib.Core.Bool.{cond}
 use mathlib.Core.List.{List}
 use lib.Dec.{ltb, eqb}
 use lib.ListN.{length}
-use Rattle.refusal.specs.declared.Outcome.{Outcome}
-use Rattle.refusal.specs.declared.Outcome.the-variants as outcome
 use Rattle.refusal.specs.declared.Refusal.the-variants.{BytesLeft}
-use Rattle.refusal.specs.Chain.{firstOf}
+use Rattle.refusal.specs.Chain.{firstOf, unlessRefused}
 use Rattle.keyentry.specs.Reading.{shown}
 use Rattle.keylist.specs.declared.Place.{Place}
 use Rattle.keylist.specs.declared.Found.{Found}
@@ -24,21 +22,17 @@ start = record { at = 4; index = 0 }
 unfoldable pub foundAt : List ℕ → Place → Found
 foundAt s p = record { index = p .index; at = p .at; entry = shown (recordAt s (p .at)) }
 
-unfoldable pub stepUnless : Outcome → ℕ → Step → Step
-stepUnless outcome.Accepted index step = step
-stepUnless (outcome.Refused r) index step = Refused r index
-
 -- the end, or 22 where bytes are left
 unfoldable pub endAt : List ℕ → ℕ → Step
 endAt s at = cond (eqb at (length s)) End (Refused BytesLeft 0)
 
 -- the entry at a place, or the refusal given for it
 unfoldable pub entryStep : List ℕ → Place → Step
-entryStep s p = stepUnless (firstOf (placeChecks s (p .at))) (p .index) (Entry (foundAt s p))
+entryStep s p = unlessRefused (λ r. Refused r (p .index)) (firstOf (placeChecks s (p .at))) (Entry (foundAt s p))
 
 -- the walk judges and shows each entry in turn, then the end or the refusal
 unfoldable pub stepOf : List ℕ → Place → Step
-stepOf s p = stepUnless (firstOf (listChecks s)) 0 (cond (ltb (p .index) (countOf s)) (entryStep s p) (endAt s (p .at)))
+stepOf s p = unlessRefused (λ r. Refused r 0) (firstOf (listChecks s)) (cond (ltb (p .index) (countOf s)) (entryStep s p) (endAt s (p .at)))
 
 -- past an entry the place moves to the next one; at the end and at a refusal it stays, so that asked again it is that again
 unfoldable pub placeAfter : Step → List ℕ → Place → Place

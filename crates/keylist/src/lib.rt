@@ -1,12 +1,15 @@
 // Document 01, "Key List Entry and list": a list of Key List Entries, judged whole and walked entry by entry.
 ghost use mathlib.Core.Path.{_≡_};
-ghost use Rattle.keylist.specs.Reading.{listOf};
+ghost use Rattle.keylist.specs.Reading.{extentOf, listOf};
+ghost use Rattle.keylist.specs.Passing.{judgedAt};
 ghost use Rattle.keylist.specs.Stepping.{endAt, arrived, advanceOf};
 use keyentry::Entry;
 use keyentry::EntryRead;
 use records::LIMIT;
 use refusal::Refusal;
+use wire::Span;
 use wire::le32_at;
+use wire::part;
 
 pub mod walk;
 
@@ -14,6 +17,12 @@ pub mod walk;
 pub enum ListRead {
     Count(u32),
     Refused(Refusal, u32),
+}
+
+// Where the record at a place lies, or the refusal that the list rule gives it.
+pub enum Bounds {
+    Record(Span),
+    Refused(Refusal),
 }
 
 // Where a walk stands: the offset of the next entry, and its index.
@@ -47,8 +56,8 @@ impl Place {
     pub const START: Place = Place { at: 4, index: 0 };
 }
 
-// One step, which judge and walk share: the entry at a place, or the end, or the refusal (the list's 1 and 2; then 2, 3 and the
-// reader's, given for the entry). At the last two the place stays.
+// One step of the walk: the entry at a place, or the end, or the refusal (the list's 1 and 2; then the list rule's
+// and the reader's, given for the entry). At the last two the place stays.
 pub fn next_step(list: &[u8], place: Place) -> Advance
     ensures { λ r. ⌜ r ≡ advanceOf (now (list .entry)) place ⌝ }
 {
@@ -63,30 +72,37 @@ pub fn next_step(list: &[u8], place: Place) -> Advance
     }
     let at = place.at;
     let index = place.index;
+    match extent(list, at) {
+        Bounds::Refused(refusal) => stay(Step::Refused(refusal, index), place),
+        Bounds::Record(span) => match keyentry::read(part(list, span)) {
+            EntryRead::Accepted(entry) => Advance {
+                step: Step::Entry(Found { index, at, entry }),
+                place: Place {
+                    at: at + span.len,
+                    index: index + 1,
+                },
+            },
+            EntryRead::Refused(refusal) => stay(Step::Refused(refusal, index), place),
+        },
+    }
+}
+
+// The list rule: the record at a place is its Length bytes, 20 at least, which lie inside; else 2 or 3.
+pub fn extent(list: &[u8], at: usize) -> Bounds
+    ensures { λ r. ⌜ r ≡ extentOf (now (list .entry)) at ⌝ }
+{
     if list.len() < at {
-        return stay(Step::Refused(Refusal::Short, index), place);
+        return Bounds::Refused(Refusal::Short);
     }
     let left = list.len() - at;
     if left < 20 {
-        return stay(Step::Refused(Refusal::Short, index), place);
+        return Bounds::Refused(Refusal::Short);
     }
     let len = le32_at(list, at) as usize;
-    if len < 20 {
-        return stay(Step::Refused(Refusal::LengthsDisagree, index), place);
+    if (len < 20) | (left < len) {
+        return Bounds::Refused(Refusal::LengthsDisagree);
     }
-    if left < len {
-        return stay(Step::Refused(Refusal::LengthsDisagree, index), place);
-    }
-    match keyentry::read(&list[at..at + len]) {
-        EntryRead::Accepted(entry) => Advance {
-            step: Step::Entry(Found { index, at, entry }),
-            place: Place {
-                at: at + len,
-                index: index + 1,
-            },
-        },
-        EntryRead::Refused(refusal) => stay(Step::Refused(refusal, index), place),
-    }
+    Bounds::Record(Span { at, len })
 }
 
 // Behind the last entry: the end, or 22 where bytes are left.
@@ -106,26 +122,45 @@ fn stay(step: Step, place: Place) -> Advance
     Advance { step, place }
 }
 
-// The list's count, or its refusal: the walk from its start to its end, in one pass.
+// The record at a place, where the list rule and the entry's reader accept it.
+fn judge_at(list: &[u8], at: usize) -> Bounds
+    ensures { λ r. ⌜ r ≡ judgedAt (now (list .entry)) at ⌝ }
+{
+    match extent(list, at) {
+        Bounds::Refused(refusal) => Bounds::Refused(refusal),
+        Bounds::Record(span) => match keyentry::read(part(list, span)) {
+            EntryRead::Accepted(_) => Bounds::Record(span),
+            EntryRead::Refused(refusal) => Bounds::Refused(refusal),
+        },
+    }
+}
+
+// The list's count, or its refusal, in one pass.
 pub fn judge(list: &[u8]) -> ListRead
     ensures { λ r. ⌜ r ≡ listOf (now (list .entry)) ⌝ }
 {
+    if LIMIT < list.len() {
+        return ListRead::Refused(Refusal::TooLong, 0);
+    }
+    if list.len() < 4 {
+        return ListRead::Refused(Refusal::Short, 0);
+    }
+    let count = le32_at(list, 0);
     let mut at = 4;
     let mut index = 0;
-    loop {
-        let next = next_step(list, Place { at, index });
-        let step = next.step;
-        match step {
-            Step::Entry(_) => {
-                at = next.place.at;
-                index = next.place.index;
+    while index < count {
+        match judge_at(list, at) {
+            Bounds::Record(span) => {
+                at += span.len;
+                index += 1;
             }
-            Step::End => {
-                return ListRead::Count(index);
-            }
-            Step::Refused(refusal, told) => {
-                return ListRead::Refused(refusal, told);
+            Bounds::Refused(refusal) => {
+                return ListRead::Refused(refusal, index);
             }
         }
     }
+    if at == list.len() {
+        return ListRead::Count(index);
+    }
+    ListRead::Refused(Refusal::BytesLeft, 0)
 }

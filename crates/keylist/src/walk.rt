@@ -1,6 +1,6 @@
 // Document 01, "Key List Entry and list": the walk over a list holds the lent list and its place.
 ghost use mathlib.Core.Path.{_≡_};
-ghost use Rattle.keylist.specs.Stepping.{start, stepOf};
+ghost use Rattle.keylist.specs.Stepping.{start};
 ghost use Rattle.keylist.specs.Walking.{walkAt, advanced, walkedOn};
 use crate::Place;
 use crate::Step;
@@ -42,12 +42,4 @@ impl<'a> Walk<'a> {
         self.index = advance.place.index;
         advance.step
     }
-}
-
-// The first step, for a caller that wants no walk.
-pub fn first(list: &[u8]) -> Step
-    ensures { λ r. ⌜ r ≡ stepOf (now (list .entry)) start ⌝ }
-{
-    let mut walk = Walk::over(list);
-    walk.next()
 }

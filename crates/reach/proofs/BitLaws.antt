@@ -1,17 +1,8 @@
 -- Laws of rows of bits and of counting: a bit of a row is what its test says, a row is told by its bits, and a machine's count of
 -- ones is the count of set bits.
-use Prim.Native.Nat.{ℕ, zero, suc, _+_, _-_, _*_, _/_, _%_, _^_, _≤_, _<_}
-use native.Mathlib.Nat.{add-zero, add-suc, pow-suc, pow-succ', div-div-eq-div-mul, div-eq-of-lt}
-use native.Mathlib.Omega.{arith}
-use mathlib.Core.Bool.{Bool, true, false}
-use mathlib.Core.List.{[], _∷_, _++_}
-use mathlib.Core.Path.{_≡_, refl, sym, ap, ap₂, _∙_}
+use Rattle.lemmas.proofs.Basics.{ℕ, zero, suc, _+_, _-_, _*_, _/_, _%_, _^_, _≤_, _<_, arith, add-zero, add-suc, pow-suc, pow-succ', div-div-eq-div-mul, div-eq-of-lt, Bool, true, false, [], _∷_, _++_, _≡_, refl, sym, ap, ap₂, _∙_, ltb, leb, eqb, length, getD, length-append, List·getD-append, getD-at, ltb-true, ltb-false, le-leb, eqb-true, eqb-false}
 use lib.Count.{ones, ones-step}
-use lib.Dec.{eqb, leb, ltb}
-use lib.ListN.{length, getD, length-append, List·getD-append}
-use lib.Seq.{getD-at}
-use borrow.Author.Tests.{eqb-true, eqb-false, ltb-true, ltb-false, le-leb}
-use Rattle.refusal.proofs.Cases.{by-cases}
+use Rattle.lemmas.proofs.Cases.{by-cases}
 use Rattle.reach.specs.Bits.{bitAt, bit, rowWhere, count, table}
 
 bit-below : (b : Bool) → bit b < 2

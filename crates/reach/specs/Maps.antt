@@ -6,16 +6,16 @@ use mathlib.Core.List.{List, [], _∷_}
 use lib.ListN.{getD, replicate}
 use Rattle.gkid.specs.declared.Gkid.{Gkid}
 use Rattle.gkid.specs.Identifier.{gkid}
-use Rattle.reach.specs.declared.Keys.{Keys}
+use Rattle.keys.specs.declared.SeedKeys.{SeedKeys}
 use Rattle.reach.specs.Reached.{ofGroup, reaches}
 use Rattle.reach.specs.Bits.{bitAt, rowWhere, count, table}
 
 -- row L1: the bit at index L2 is set where the keys present reach (L0, L1, L2)
-unfoldable pub rowOf : Keys → Gkid → ℕ → ℕ
+unfoldable pub rowOf : SeedKeys → Gkid → ℕ → ℕ
 rowOf keys at l1 = rowWhere 32 (λ l2. reaches keys at (gkid (at .l0 .0) l1 l2))
 
 -- the 32 rows, from the keys present
-unfoldable pub mapOf : Keys → Gkid → List ℕ
+unfoldable pub mapOf : SeedKeys → Gkid → List ℕ
 mapOf keys at = table 32 (rowOf keys at)
 
 -- no bit is set

@@ -3,7 +3,7 @@ use mathlib.Core.Bool.{Bool, not, cond, _&&_, _||_}
 use lib.Dec.{eqb, leb, ltb}
 use Rattle.gkid.specs.declared.Gkid.{Gkid}
 use Rattle.gkid.specs.Identifier.{indexAbove31}
-use Rattle.reach.specs.declared.Keys.{Keys}
+use Rattle.keys.specs.declared.SeedKeys.{SeedKeys}
 
 -- i is of at's L0 group: the 1,024 identifiers of one L0, with L1 and L2 from 0 to 31
 unfoldable pub ofGroup : Gkid → Gkid → Bool
@@ -18,5 +18,5 @@ unfoldable pub l2Reaches : Gkid → Gkid → Bool
 l2Reaches at i = ofGroup at i && (eqb (i .l1 .0) (at .l1 .0) && leb (i .l2 .0) (at .l2 .0))
 
 -- reached by a key that is present
-unfoldable pub reaches : Keys → Gkid → Gkid → Bool
+unfoldable pub reaches : SeedKeys → Gkid → Gkid → Bool
 reaches keys at i = keys .l1 && l1Reaches at i || keys .l2 && l2Reaches at i

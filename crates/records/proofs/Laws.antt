@@ -1,41 +1,35 @@
 -- Laws of a writer's answer.
-use Prim.Native.Nat.{ℕ, _≤_, _<_, min}
-use native.Mathlib.Omega.{arith}
-use mathlib.Core.List.{List}
-use mathlib.Core.Path.{_≡_, refl, sym, ap, _∙_}
-use lib.Dec.{ltb}
-use lib.ListN.{length, take, drop}
-use borrow.Author.Tests.{ltb-true, ltb-false, le-ltb}
+use Rattle.lemmas.proofs.Basics.{ℕ, _≤_, _<_, min, arith, List, _≡_, refl, sym, ap, _∙_, ltb, length, take, drop, le-ltb, ltb-true, ltb-false}
 use Rattle.refusal.specs.declared.Outcome.{Outcome}
 use Rattle.refusal.specs.declared.Outcome.the-variants as outcome
 use Rattle.refusal.specs.declared.Refusal.{Refusal}
 use Rattle.refusal.specs.declared.Refusal.the-variants.{NoRoom}
-use Rattle.refusal.specs.Chain.{refuseIf}
-use Rattle.refusal.proofs.Cases.{by-cases, leb-same}
+use Rattle.refusal.specs.Chain.{unlessRefused, refuseIf}
+use Rattle.lemmas.proofs.Cases.{by-cases, leb-same}
 use Rattle.wire.proofs.Writing.{take-onto, drop-onto}
 use Rattle.records.specs.declared.Written.the-variants.{Length, Refused}
-use Rattle.records.specs.Writing.{writtenOf, withLength, outputOf}
+use Rattle.records.specs.Writing.{writtenOf, outputOf}
 
 -- A record is written exactly where its reader accepts it and the output has room.
 pub written-accepted : (checks : Outcome) (len room n : ℕ) → writtenOf checks len room ≡ Length n → (checks ≡ outcome.Accepted) × (len ≤ room) × (n ≡ len)
-unfolding writtenOf withLength refuseIf
+unfolding writtenOf refuseIf unlessRefused
 written-accepted (outcome.Refused r) len room n e = absurd (apart e)
   where
     apart : {r : Refusal} {n : ℕ} → Refused r ≡ Length n → ⊥
     apart e = let z : _≡_ {A = ℕ} 0 1 = cc in omega arith
 written-accepted outcome.Accepted len room n e =
-    by-cases (λ t. withLength len (refuseIf outcome.Accepted t NoRoom) ≡ Length n → (outcome.Accepted ≡ outcome.Accepted) × (len ≤ room) × (n ≡ len)) (ltb room len)
+    by-cases (λ t. unlessRefused Refused (refuseIf outcome.Accepted t NoRoom) (Length len) ≡ Length n → (outcome.Accepted ≡ outcome.Accepted) × (len ≤ room) × (n ≡ len)) (ltb room len)
     (λ q w. let z : _≡_ {A = ℕ} 0 1 = cc in absurd (omega arith))
     (λ q w. (refl, ltb-false room len q, cc))
     e
 
 pub accepted-written : (len room : ℕ) → len ≤ room → writtenOf outcome.Accepted len room ≡ Length len
-unfolding writtenOf withLength refuseIf
+unfolding writtenOf refuseIf unlessRefused
 accepted-written len room h = rw (le-ltb room len h)
 
 -- The reader's refusal is the writer's, whatever the room.
 pub refused-written : (r : Refusal) (len room : ℕ) → writtenOf (outcome.Refused r) len room ≡ Refused r
-unfolding writtenOf withLength refuseIf
+unfolding writtenOf refuseIf unlessRefused
 refused-written r len room = refl
 
 -- What a writer accepted stands at the start of the output, and the rest is as it was.

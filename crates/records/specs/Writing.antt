@@ -4,22 +4,16 @@ use Prim.Native.Nat.{ℕ}
 use mathlib.Core.List.{List}
 use lib.Dec.{ltb}
 use Rattle.refusal.specs.declared.Outcome.{Outcome}
-use Rattle.refusal.specs.declared.Outcome.the-variants as outcome
 use Rattle.refusal.specs.declared.Refusal.the-variants.{NoRoom}
-use Rattle.refusal.specs.Chain.{refuseIf}
+use Rattle.refusal.specs.Chain.{unlessRefused, refuseIf}
 use Rattle.refusal.specs.Number.{numberOf}
 use Rattle.wire.specs.Parts.{onto}
 use Rattle.records.specs.declared.Written.{Written}
 use Rattle.records.specs.declared.Written.the-variants.{Length, Refused}
 
--- an outcome, with the record's length where it is accepted
-unfoldable pub withLength : ℕ → Outcome → Written
-withLength len outcome.Accepted = Length len
-withLength len (outcome.Refused r) = Refused r
-
 -- what the reader says of a record of len bytes, then 13 where the output has fewer than len
 unfoldable pub writtenOf : Outcome → ℕ → ℕ → Written
-writtenOf checks len room = withLength len (refuseIf checks (ltb room len) NoRoom)
+writtenOf checks len room = unlessRefused Refused (refuseIf checks (ltb room len) NoRoom) (Length len)
 
 -- the output afterwards: the record and what stood behind it, or as it was
 unfoldable pub outputOf : Written → List ℕ → List ℕ → List ℕ

@@ -1,14 +1,12 @@
 -- Laws of the chain of checks: accepted exactly where no check applies, and refused exactly by the first that does.
-use mathlib.Core.Bool.{Bool, true, false}
-use mathlib.Core.List.{List, [], _∷_, _++_}
-use mathlib.Core.Path.{_≡_, refl, sym, ap}
-use Prim.Native.Nat.{ℕ}
-use native.Mathlib.Omega.{arith}
+use Rattle.lemmas.proofs.Basics.{ℕ, arith, Bool, true, false, List, [], _∷_, _++_, _≡_, refl, sym, ap, _∙_}
 use Rattle.refusal.specs.declared.Refusal.{Refusal}
 use Rattle.refusal.specs.declared.Outcome.{Outcome}
 use Rattle.refusal.specs.declared.Outcome.the-variants.{Accepted, Refused}
-use Rattle.refusal.specs.Chain.{Check, _⇒_, firstOf, refuseIf}
-use Rattle.refusal.proofs.Cases.{cond-else}
+use Rattle.refusal.specs.Chain.{Check, _⇒_, firstOf, unlessRefused, goesOn, refuseIf}
+use Rattle.refusal.specs.Number.{numberOf}
+use Rattle.lemmas.proofs.Cases.{cond-else}
+use Rattle.refusal.proofs.Numbers.{number-not-zero}
 
 -- no check of the chain applies
 abbrev pub Pass : List Check → Type 0
@@ -71,12 +69,12 @@ run o [] = o
 run o ((applies ⇒ r) ∷ checks) = run (refuseIf o applies r) checks
 
 pub run-refused : (checks : List Check) (r : Refusal) → run (Refused r) checks ≡ Refused r
-unfolding run refuseIf
+unfolding run refuseIf unlessRefused
 run-refused [] r = refl
 run-refused ((applies ⇒ q) ∷ checks) r = run-refused checks r
 
 pub run-first : (checks : List Check) → run Accepted checks ≡ firstOf checks
-unfolding run refuseIf firstOf
+unfolding run refuseIf unlessRefused firstOf
 run-first [] = refl
 run-first ((true ⇒ r) ∷ checks) = run-refused checks r
 run-first ((false ⇒ r) ∷ checks) = run-first checks
@@ -84,3 +82,47 @@ run-first ((false ⇒ r) ∷ checks) = run-first checks
 -- a link of the chain, from the link before it and the value of its test
 pub refuse-is : {o p : Outcome} {a b : Bool} (r : Refusal) → o ≡ p → a ≡ b → refuseIf o a r ≡ refuseIf p b r
 refuse-is r e f = λ i. refuseIf (e i) (f i) r
+
+-- Two lists of checks, one behind the other: the chain goes on where the first comes to no refusal.
+pub first-append : (checks others : List Check) → firstOf (checks ++ others) ≡ goesOn (firstOf checks) (firstOf others)
+unfolding firstOf unlessRefused
+first-append [] others = refl
+first-append ((true ⇒ r) ∷ checks) others = refl
+first-append ((false ⇒ r) ∷ checks) others = first-append checks others
+
+-- So both are accepted, or neither the whole.
+pub append-accepted : (checks others : List Check) → firstOf (checks ++ others) ≡ Accepted → (firstOf checks ≡ Accepted) × (firstOf others ≡ Accepted)
+unfolding unlessRefused
+append-accepted checks others e = both (firstOf checks) (sym (first-append checks others) ∙ e)
+  where
+    both : (o : Outcome) → goesOn o (firstOf others) ≡ Accepted → (o ≡ Accepted) × (firstOf others ≡ Accepted)
+    both Accepted e = (refl, e)
+    both (Refused r) e = absurd (never-both e)
+
+pub accepted-append : (checks others : List Check) → firstOf checks ≡ Accepted → firstOf others ≡ Accepted → firstOf (checks ++ others) ≡ Accepted
+unfolding unlessRefused
+accepted-append checks others first second = first-append checks others ∙ rw (first, second)
+
+-- An answer whose number is that of its refusal is 0 only where the outcome is accepted, and what stands behind it is 0.
+pub unless-zero : {A : Type 0} (number : A → ℕ) (told : Refusal → A) → ((r : Refusal) → number (told r) ≡ numberOf r)
+    → (o : Outcome) (rest : A) → number (unlessRefused told o rest) ≡ 0 → (o ≡ Accepted) × (number rest ≡ 0)
+unfolding unlessRefused
+unless-zero number told tells Accepted rest z = (refl, z)
+unless-zero number told tells (Refused r) rest z = absurd (number-not-zero r (sym (tells r) ∙ z))
+
+-- two outcomes in code, one behind the other
+pub goes-is : {o p q r : Outcome} → o ≡ p → q ≡ r → goesOn o q ≡ goesOn p r
+goes-is e f = λ i. goesOn (e i) (f i)
+
+-- two chains in code, one behind the other
+pub then-first : {o p : Outcome} (checks others : List Check) → o ≡ firstOf checks → p ≡ firstOf others → goesOn o p ≡ firstOf (checks ++ others)
+then-first checks others e f = goes-is e f ∙ sym (first-append checks others)
+
+-- a chain that stops at a refusal, and one that goes on where there is none
+pub stops : {o : Outcome} {r : Refusal} (checks others : List Check) → o ≡ firstOf checks → o ≡ Refused r → o ≡ firstOf (checks ++ others)
+unfolding unlessRefused
+stops checks others e told = told ∙ rw (first-append checks others, ← e, told)
+
+pub follows : {o p : Outcome} (checks others : List Check) → o ≡ firstOf checks → o ≡ Accepted → p ≡ firstOf others → p ≡ firstOf (checks ++ others)
+unfolding unlessRefused
+follows checks others e told next = next ∙ rw (first-append checks others, ← e, told)

@@ -15,7 +15,15 @@ unfoldable pub firstOf : List Check → Outcome
 firstOf [] = Accepted
 firstOf ((applies ⇒ r) ∷ checks) = cond applies (Refused r) (firstOf checks)
 
--- one more check after those that came to an outcome
+-- what comes of an outcome: the refusal, as it is told there, or what stands behind the checks
+unfoldable pub unlessRefused : {A : Type 0} → (Refusal → A) → Outcome → A → A
+unlessRefused told Accepted rest = rest
+unlessRefused told (Refused r) rest = told r
+
+-- checks that go on behind those that came to an outcome
+abbrev pub goesOn : Outcome → Outcome → Outcome
+goesOn o rest = unlessRefused Refused o rest
+
+-- one more check behind them
 unfoldable pub refuseIf : Outcome → Bool → Refusal → Outcome
-refuseIf (Refused first) applies r = Refused first
-refuseIf Accepted applies r = cond applies (Refused r) Accepted
+refuseIf o applies r = goesOn o (cond applies (Refused r) Accepted)

@@ -2,7 +2,7 @@
 // the answer.
 ghost use mathlib.Core.Path.{_≡_};
 ghost use Rattle.refusal.specs.Number.{numberOf, outcomeNumber};
-ghost use Rattle.refusal.specs.Chain.{refuseIf};
+ghost use Rattle.refusal.specs.Chain.{goesOn, refuseIf};
 
 // Document 01, "Refusal numbers": a variant for each row of the table, in its order.
 pub enum Refusal {
@@ -93,6 +93,16 @@ pub enum Outcome {
 }
 
 impl Outcome {
+    // The checks go on: the refusal that stands already, else what the next checks come to.
+    pub fn then(self, next: Outcome) -> Outcome
+        ensures { λ r. ⌜ r ≡ goesOn self next ⌝ }
+    {
+        match self {
+            Outcome::Refused(_) => self,
+            Outcome::Accepted => next,
+        }
+    }
+
     // One more check: the refusal that stands already, else `refusal` where the check fails.
     pub fn refuse_if(self, fails: bool, refusal: Refusal) -> Outcome
         ensures { λ r. ⌜ r ≡ refuseIf self fails refusal ⌝ }

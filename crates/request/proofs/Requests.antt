@@ -1,19 +1,9 @@
 -- Laws of requests that neither 14 nor 15 refuses: their indices are all -1 or all 0 and above, and then naturals.
-use Prim.Native.Nat.{ℕ, _<_, _^_}
-use native.Mathlib.Omega.{arith}
-use mathlib.Core.Bool.{Bool, true, false, cond, true≢false}
-use mathlib.Core.Path.{_≡_, refl, sym, _∙_}
-use lib.Dec.{eqb, ltb}
+use Rattle.lemmas.proofs.Basics.{ℕ, arith, Bool, true, false, cond, true≢false, _≡_, refl, ltb, eqb, ltb-true, ltb-false, eq-eqb, ne-eqb}
 use lib.IntN.{ℤ, pos, negsuc}
-use borrow.Author.Tests.{ltb-true, ltb-false, eq-eqb, ne-eqb}
-use Rattle.refusal.proofs.Cases.{by-cases, or-false}
-use Rattle.gkid.specs.declared.FileTime.{FileTime}
+use Rattle.lemmas.proofs.Cases.{by-cases, or-false}
 use Rattle.gkid.specs.declared.Gkid.{Gkid}
 use Rattle.gkid.specs.Identifier.{InGroup, laterThen, later}
-use Rattle.gkid.specs.Conversion.{gkidAt}
-use Rattle.gkid.specs.Start.{startTime}
-use Rattle.gkid.proofs.Order.{ordinal, later-ordinal}
-use Rattle.gkid.proofs.Times.{reading-in-group, reading-ordinal}
 use Rattle.request.specs.declared.Root.{Root}
 use Rattle.request.specs.declared.Request.{Request}
 use Rattle.request.specs.Indices.{below, outside, outOfRange, unset, mixed, laterThenZ, laterThanNow, names, natural, namedOf}
@@ -56,10 +46,3 @@ asks q h e =
     let l0 = or-false (below (q .l0)) _ h in
     let rest = or-false (outside (q .l1)) _ (l0 .1) in
     asks-of (q .root) (q .l0) (q .l1) (q .l2) (l0 .0) (rest .0) (rest .1) e
-
--- An identifier up to now starts within 64 bits.
-pub up-to-now : (i : Gkid) (t : FileTime) → t .0 < 2 ^ 64 → InGroup i → later i (gkidAt t) ≡ false → startTime i < 2 ^ 64
-up-to-now i t h g e =
-    let order = ltb-false (ordinal (gkidAt t)) (ordinal i) (sym (later-ordinal i (gkidAt t) g (reading-in-group t)) ∙ e) in
-    let steps = reading-ordinal t in
-    omega arith

@@ -1,15 +1,11 @@
 -- Signed numbers as the machine holds them, by their bits, and as they are meant.
-use Prim.Native.Nat.{ℕ, suc, _-_, _^_, _≤_}
-use native.Mathlib.Omega.{arith}
-use mathlib.Core.Bool.{true, false, true≢false, false≢true}
-use mathlib.Core.Path.{_≡_, refl, sym, _∙_}
-use lib.Dec.{T, eqb, leb·zero}
+use Rattle.lemmas.proofs.Basics.{ℕ, suc, _-_, _^_, _≤_, arith, true, false, true≢false, false≢true, _≡_, refl, sym, _∙_, eqb, leb·zero, lt-ltb, le-ltb, eq-eqb, ne-eqb, eqb-true, eqb-false}
+use lib.Dec.{T}
 use lib.IntN.{ℤ, pos, negsuc, natAbs}
 use lib.Signed.{leZ, ltZ, nonNeg}
 use mir.Syntax.{w32}
 use mir.Val.{Fits, SFits, ofZ}
-use borrow.Author.Tests.{eqb-true, eqb-false, eq-eqb, ne-eqb, lt-ltb, le-ltb}
-use Rattle.refusal.proofs.Cases.{by-cases}
+use Rattle.lemmas.proofs.Cases.{by-cases}
 use Rattle.request.specs.Indices.{unset, natural}
 
 pub natural-test : (z : ℤ) → leZ (pos 0) z ≡ nonNeg z

@@ -1,13 +1,6 @@
 -- Laws of root key identifiers: stored and read back, read and stored, and compared.
-use Prim.Native.Nat.{ℕ, _+_, _^_, _≤_, _<_}
-use native.Mathlib.Omega.{arith}
-use mathlib.Core.Bool.{true, _&&_, false≢true}
-use mathlib.Core.List.{List, [], _++_}
-use mathlib.Core.Path.{_≡_, refl, sym, ap, ap₂, _∙_}
-use lib.Dec.{eqb}
-use lib.ListN.{length, getD, take}
-use borrow.Author.Tests.{eqb-true, eq-eqb}
-use Rattle.refusal.proofs.Cases.{by-cases}
+use Rattle.lemmas.proofs.Basics.{ℕ, _+_, _^_, _≤_, _<_, arith, true, _&&_, false≢true, List, [], _++_, _≡_, refl, sym, ap, ap₂, _∙_, eqb, length, getD, take, eq-eqb, eqb-true}
+use Rattle.lemmas.proofs.Cases.{by-cases}
 use Rattle.wire.specs.Numbers.{leBytes, beOf, beBytes}
 use Rattle.wire.specs.Parts.{beAt, partOf, joined}
 use Rattle.wire.proofs.Numbers.{Bytes, be-back, bytes-part, be-part-back}

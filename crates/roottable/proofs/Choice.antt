@@ -1,21 +1,15 @@
 -- Laws of the choice of a row: the chosen row is suitable, no suitable row is higher, none before it as high; none is chosen exactly
 -- where none is suitable; and one pass over the rows finds it.
-use Prim.Native.Nat.{ℕ, zero, suc, _≤_, _<_}
-use native.Mathlib.Omega.{arith}
-use mathlib.Core.Bool.{Bool, true, false, cond, not, _&&_, _||_, true≢false}
-use mathlib.Core.List.{List}
-use mathlib.Core.Path.{_≡_, refl, sym, subst, _∙_}
-use lib.Dec.{leb, ltb}
-use borrow.Author.Count.{below-more}
-use borrow.Author.Tests.{leb-true, le-leb, ltb-true, ltb-false}
-use Rattle.refusal.proofs.Cases.{by-cases, cond-cases, both-true}
+use Rattle.lemmas.proofs.Basics.{ℕ, zero, suc, _≤_, _<_, arith, Bool, true, false, cond, not, _&&_, _||_, true≢false, List, _≡_, refl, sym, subst, _∙_, ltb, leb, ltb-true, ltb-false, le-leb, leb-true, below-more}
+use Rattle.lemmas.proofs.Cases.{by-cases, cond-cases, both-true}
 use Rattle.roottable.specs.declared.Wanted.{Wanted}
 use Rattle.roottable.specs.declared.Found.{Found}
 use Rattle.roottable.specs.declared.Found.the-variants as found
 use Rattle.roottable.specs.declared.Best.{Best}
 use Rattle.roottable.specs.declared.Best.the-variants as best
 use Rattle.roottable.specs.Rows.{rowAt, rowCount, suitable, rank}
-use Rattle.roottable.specs.Selection.{every, orElse, firstWhere, firstHighest, chosenRow, better, stepOf}
+use Rattle.roottable.specs.Selection.{every, orElse, firstWhere, firstHighest, chosenRow}
+use Rattle.roottable.specs.Passing.{better, stepOf}
 
 -- of n places, k is suitable, no suitable one is higher, and none before it as high
 pub record Chosen (n : ℕ) (suits : ℕ → Bool) (height : ℕ → ℕ) (k : ℕ) : Type 0 where

@@ -1,10 +1,5 @@
 -- A row read from its own 32 bytes is the row of the table.
-use Prim.Native.Nat.{ℕ, _+_, _-_, _*_, _≤_}
-use native.Mathlib.Nat.{add-sub-cancel-left, add-zero}
-use native.Mathlib.Omega.{arith}
-use mathlib.Core.Path.{_≡_, sym, _∙_}
-use mathlib.Core.List.{List}
-use lib.ListN.{length, take, drop}
+use Rattle.lemmas.proofs.Basics.{ℕ, _+_, _-_, _*_, _≤_, arith, add-zero, add-sub-cancel-left, List, _≡_, sym, _∙_, length, take, drop}
 use Rattle.wire.specs.Parts.{beAt, partOf}
 use Rattle.wire.proofs.Parts.{part-in, part-within}
 use Rattle.rootid.specs.Root.{rootAt}

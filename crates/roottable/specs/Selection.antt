@@ -2,12 +2,10 @@
 use Prim.Native.Nat.{ℕ, zero, suc}
 use mathlib.Core.Bool.{Bool, true, cond, not, _&&_, _||_}
 use mathlib.Core.List.{List}
-use lib.Dec.{ltb, leb}
+use lib.Dec.{leb}
 use Rattle.roottable.specs.declared.Wanted.{Wanted}
 use Rattle.roottable.specs.declared.Found.{Found}
 use Rattle.roottable.specs.declared.Found.the-variants as found
-use Rattle.roottable.specs.declared.Best.{Best}
-use Rattle.roottable.specs.declared.Best.the-variants as best
 use Rattle.roottable.specs.Rows.{rowAt, rowCount, suitable, rank}
 
 -- the test holds of every number below n
@@ -31,11 +29,3 @@ firstHighest n suits height = firstWhere n (λ k. suits k && every n (λ j. not 
 -- the row of the table that is wanted
 unfoldable pub chosenRow : Wanted → List ℕ → Found
 chosenRow wanted table = firstHighest (rowCount table) (λ k. suitable wanted (rowAt table k)) (λ k. rank wanted (rowAt table k))
-
--- one pass: a row is better than those before it where its rank is higher
-unfoldable pub better : Best → ℕ → ℕ → Best
-better best.None k height = best.Row k height
-better (best.Row j high) k height = cond (ltb high height) (best.Row k height) (best.Row j high)
-
-unfoldable pub stepOf : Best → Bool → ℕ → ℕ → Best
-stepOf b suits k height = cond suits (better b k height) b

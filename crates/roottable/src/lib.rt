@@ -2,7 +2,8 @@
 ghost use mathlib.Core.Path.{_≡_};
 ghost use Prim.Native.Nat.{_<_};
 ghost use Rattle.roottable.specs.Rows.{rowAt, rowCount, suitable, rank, tableWrong};
-ghost use Rattle.roottable.specs.Selection.{better, chosenRow, stepOf};
+ghost use Rattle.roottable.specs.Selection.{chosenRow};
+ghost use Rattle.roottable.specs.Passing.{better, stepOf};
 use gkid::FileTime;
 use rootid::RootId;
 

@@ -1,22 +1,13 @@
 -- Laws of the reach of an envelope and of the choice between two.
-use Prim.Native.Nat.{ℕ, _<_}
-use native.Mathlib.Omega.{arith}
-use mathlib.Core.Bool.{Bool, true, false, cond, _&&_, _||_, true≢false}
-use mathlib.Core.List.{List}
-use mathlib.Core.Path.{_≡_, refl, sym, ap, subst, _∙_}
-use lib.Dec.{eqb}
-use borrow.Author.Tests.{eq-eqb}
-use Rattle.refusal.proofs.Cases.{by-cases, cond-cases, not-false}
-use Rattle.refusal.proofs.Chains.{accepted-pass}
+use Rattle.lemmas.proofs.Basics.{ℕ, Bool, true, false, cond, _&&_, _||_, List, _≡_, refl, ap, subst, _∙_, eqb}
+use Rattle.lemmas.proofs.Cases.{by-cases, cond-cases}
 use Rattle.wire.specs.declared.Span.{Span}
 use Rattle.wire.specs.Parts.{partOf}
 use Rattle.gkid.specs.declared.Gkid.{Gkid}
 use Rattle.gkid.specs.Identifier.{indexAbove31}
 use Rattle.rootid.specs.declared.RootId.{RootId}
 use Rattle.rootid.specs.Root.{sameRoot}
-use Rattle.reach.specs.declared.Form.{Form}
-use Rattle.reach.specs.declared.Form.the-variants.{Keyless, L1Only, L2Only, Both, Public}
-use Rattle.reach.specs.Forms.{keysOf}
+use Rattle.keys.specs.Forms.{keysOf}
 use Rattle.reach.specs.Reached.{l1Reaches, l2Reaches, reaches}
 use Rattle.reach.proofs.KeyLaws.{not-by-both}
 use Rattle.reach.proofs.ReachLaws.{above-31, no-key}
@@ -26,36 +17,14 @@ use Rattle.envelope.specs.declared.EnvelopeRead.the-variants as read
 use Rattle.envelope.specs.declared.EnvelopePart.{EnvelopePart}
 use Rattle.envelope.specs.declared.EnvelopePart.the-variants.{L1Key, L2Key}
 use Rattle.envelope.specs.Layout.{isPublic, bodySpan, headOf, bodiesOf}
-use Rattle.envelope.specs.Reading.{envelopeOf, envelopeNumber, envelopeChecks, layoutChecks, shown, spanOf, envelopeBody}
-use Rattle.envelope.proofs.Reading.{accepted-checks}
+use Rattle.envelope.specs.Reading.{envelopeOf, envelopeNumber, shown, spanOf, envelopeBody, formOf}
+use Rattle.envelope.proofs.ExactlyWhen.{accepted-well-formed}
+use Rattle.envelope.proofs.Forms.{absent-l1, absent-l2, present}
 use Rattle.serving.specs.declared.SeedKey.{SeedKey}
 use Rattle.serving.specs.declared.SeedKey.the-variants.{L1, L2}
 use Rattle.serving.specs.declared.Served.{Served}
 use Rattle.serving.specs.declared.Served.the-variants.{By, No}
-use Rattle.serving.specs.Reach.{formOf}
 use Rattle.serving.specs.Choice.{keyFor, servedBy}
-
--- the form by its cases, each with what the tests told
-form-cases : (P : Form → Type 0) (e : Envelope) → P Keyless → (isPublic (e .head .flags) ≡ true → P Public)
-    → (eqb (e .bodies .l1key .len) 0 && eqb (e .bodies .l2key .len) 0 ≡ false → eqb (e .bodies .l2key .len) 0 ≡ true → P L1Only)
-    → (eqb (e .bodies .l2key .len) 0 ≡ false → eqb (e .bodies .l1key .len) 0 ≡ true → P L2Only)
-    → (eqb (e .bodies .l2key .len) 0 ≡ false → eqb (e .bodies .l1key .len) 0 ≡ false → P Both) → P (formOf e)
-unfolding formOf
-form-cases P e none public l1 l2 both =
-    cond-cases P _ (λ _. none) (λ n. cond-cases P _ public (λ _. cond-cases P _ (l1 n) (λ q. cond-cases P _ (l2 q) (both q))))
-
--- Absent means absent: with no L1 key nothing is reached by one, and so for the L2 key.
-pub absent-l1 : (e : Envelope) → e .bodies .l1key .len ≡ 0 → keysOf (formOf e) .l1 ≡ false
-unfolding keysOf
-absent-l1 e z =
-    let none = eq-eqb (e .bodies .l1key .len) 0 z in
-    form-cases (λ f. keysOf f .l1 ≡ false) e refl (λ _. refl) (λ n q. absurd (true≢false (sym (rw (none, q)) ∙ n))) (λ _ _. refl) (λ _ q. absurd (true≢false (sym none ∙ q)))
-
-pub absent-l2 : (e : Envelope) → e .bodies .l2key .len ≡ 0 → keysOf (formOf e) .l2 ≡ false
-unfolding keysOf
-absent-l2 e z =
-    let none = eq-eqb (e .bodies .l2key .len) 0 z in
-    form-cases (λ f. keysOf f .l2 ≡ false) e refl (λ _. refl) (λ _ _. refl) (λ q _. absurd (true≢false (sym none ∙ q))) (λ q _. absurd (true≢false (sym none ∙ q)))
 
 -- an envelope serves exactly what its keys reach
 unfoldable pub serves : Served → Bool
@@ -85,18 +54,10 @@ pub above-31-not-served : (e : Envelope) (i : Gkid) → indexAbove31 i ≡ true 
 above-31-not-served e i h = serves-reached e i ∙ above-31 (keysOf (formOf e)) (e .head .at) i h
 
 -- No identifier is reached by both keys of one accepted envelope.
-present : (e : Envelope) → ((keysOf (formOf e) .l1 ≡ true) → 0 < e .bodies .l1key .len) × ((keysOf (formOf e) .l2 ≡ true) → 0 < e .bodies .l2key .len)
-present e = (λ k. some _ (λ z. true≢false (sym k ∙ absent-l1 e z)), λ k. some _ (λ z. true≢false (sym k ∙ absent-l2 e z)))
-  where
-    some : (n : ℕ) → (n ≡ 0 → ⊥) → 0 < n
-    some n h = omega arith
-
 pub reached-by-one : (s : List ℕ) (i : Gkid) → envelopeNumber (envelopeOf s) ≡ 0 → keysOf (formOf (shown s)) .l1 ≡ true → keysOf (formOf (shown s)) .l2 ≡ true
     → l1Reaches (headOf s .at) i ≡ true → l2Reaches (headOf s .at) i ≡ true → ⊥
-unfolding envelopeChecks layoutChecks bodiesOf
-reached-by-one s i z k1 k2 =
-    let t = accepted-pass (envelopeChecks s) (accepted-checks s z) in
-    not-by-both _ (headOf s .at) i _ _ _ (not-false _ (t .1 .1 .1 .1 .1 .1 .1 .1 .1 .0)) (present (shown s) .0 k1) (present (shown s) .1 k2)
+unfolding bodiesOf
+reached-by-one s i z k1 k2 = not-by-both _ (headOf s .at) i _ _ _ (accepted-well-formed s z .keys) (present (shown s) .0 k1) (present (shown s) .1 k2)
 
 -- What is handed out for a served identifier is that key's own body.
 abbrev pub bodyOf : SeedKey → EnvelopePart

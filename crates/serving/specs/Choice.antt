@@ -8,18 +8,17 @@ use Rattle.wire.specs.Parts.{partOf, startOf}
 use Rattle.gkid.specs.declared.Gkid.{Gkid}
 use Rattle.rootid.specs.declared.RootId.{RootId}
 use Rattle.rootid.specs.Root.{sameRoot}
-use Rattle.reach.specs.Forms.{keysOf}
+use Rattle.keys.specs.Forms.{keysOf}
 use Rattle.reach.specs.Reached.{l1Reaches, l2Reaches}
 use Rattle.envelope.specs.declared.Envelope.{Envelope}
 use Rattle.envelope.specs.declared.EnvelopeRead.{EnvelopeRead}
 use Rattle.envelope.specs.declared.EnvelopeRead.the-variants as read
-use Rattle.envelope.specs.Reading.{envelopeOf}
+use Rattle.envelope.specs.Reading.{envelopeOf, formOf}
 use Rattle.serving.specs.declared.SeedKey.the-variants.{L1, L2}
 use Rattle.serving.specs.declared.Served.{Served}
 use Rattle.serving.specs.declared.Served.the-variants.{By, No}
 use Rattle.serving.specs.declared.Choice.{Choice}
 use Rattle.serving.specs.declared.Choice.the-variants.{Cached, Fetched, Neither}
-use Rattle.serving.specs.Reach.{formOf}
 
 -- the key that reaches the identifier, and where it stands
 unfoldable pub keyFor : Envelope → Gkid → Served

@@ -2,14 +2,13 @@
 ghost use mathlib.Core.Path.{_≡_};
 ghost use Prim.Native.Nat.{_+_};
 ghost use Rattle.envelope.specs.Reading.{envelopeOf};
-ghost use Rattle.serving.specs.Reach.{formOf, envelopeReach};
+ghost use Rattle.serving.specs.Reach.{envelopeReach};
 ghost use Rattle.serving.specs.Choice.{keyFor, servedBy, choiceOf, chosenPart, chosenBlock, chosenStart};
 use envelope::Envelope;
 use envelope::EnvelopeRead;
+use envelope::form_of;
 use gkid::Gkid;
-use reach::Form;
 use reach::Reach;
-use refusal::Outcome;
 use rootid::RootId;
 use wire::Span;
 
@@ -32,28 +31,7 @@ pub enum Choice {
     Neither,
 }
 
-// The form that an envelope's keys make.
-pub fn form_of(envelope: Envelope) -> Form
-    ensures { λ r. ⌜ r ≡ formOf envelope ⌝ }
-{
-    let bodies = envelope.bodies;
-    let head = envelope.head;
-    if (bodies.l1key.len == 0) & (bodies.l2key.len == 0) {
-        return Form::Keyless;
-    }
-    if envelope::is_public(head.flags) {
-        return Form::Public;
-    }
-    if bodies.l2key.len == 0 {
-        return Form::L1Only;
-    }
-    if bodies.l1key.len == 0 {
-        return Form::L2Only;
-    }
-    Form::Both
-}
-
-// The reach of an envelope: its refusal and an empty map, or what its keys reach.
+// The reach of an envelope: what its keys reach, or its refusal.
 pub fn envelope_reach(s: &[u8]) -> Reach
     ensures { λ r. ⌜ r ≡ envelopeReach (now (s .entry)) ⌝ }
 {
@@ -61,15 +39,9 @@ pub fn envelope_reach(s: &[u8]) -> Reach
         EnvelopeRead::Accepted(envelope) => {
             let head = envelope.head;
             let at = head.at;
-            Reach {
-                outcome: Outcome::Accepted,
-                rows: reach::map(form_of(envelope).keys(), at),
-            }
+            Reach::of(form_of(envelope).keys(), at)
         }
-        EnvelopeRead::Refused(refusal) => Reach {
-            outcome: Outcome::Refused(refusal),
-            rows: [0; 32],
-        },
+        EnvelopeRead::Refused(refusal) => Reach::refused(refusal),
     }
 }
 

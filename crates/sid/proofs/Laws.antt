@@ -1,10 +1,5 @@
 -- Laws of the SID rule.
-use Prim.Native.Nat.{ℕ, _≤_}
-use mathlib.Core.Bool.{Bool, true, false, _&&_, false≢true}
-use mathlib.Core.List.{List}
-use mathlib.Core.Path.{_≡_, refl}
-use lib.ListN.{length}
-use borrow.Author.Tests.{leb-true}
+use Rattle.lemmas.proofs.Basics.{ℕ, _≤_, Bool, true, false, _&&_, false≢true, List, _≡_, refl, length, leb-true}
 use Rattle.sid.specs.Rule.{isSid}
 
 -- A SID has 8 bytes at least.

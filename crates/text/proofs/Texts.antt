@@ -1,15 +1,6 @@
 -- Laws of the text rule, unit by unit, as a loop over the bytes looks at it.
-use Prim.Native.Nat.{ℕ, suc, _+_, _-_, _≤_, _<_}
-use native.Mathlib.Numerals.{add-one}
-use native.Mathlib.Omega.{arith}
-use mathlib.Core.Bool.{true, false, cond}
-use mathlib.Core.List.{List, [], _∷_}
-use mathlib.Core.Path.{_≡_, refl, sym, ap, _∙_}
-use lib.Dec.{eqb, eqb·suc-zero}
-use lib.ListN.{length, getD, drop, length-drop}
-use lib.Seq.{drop-cons}
-use borrow.Author.Tests.{eqb-true, eqb-false, eq-eqb, ne-eqb}
-use Rattle.refusal.proofs.Cases.{by-cases}
+use Rattle.lemmas.proofs.Basics.{ℕ, suc, _+_, _-_, _≤_, _<_, arith, add-one, true, false, cond, List, [], _∷_, _≡_, refl, sym, ap, _∙_, eqb, eqb·suc-zero, length, getD, drop, length-drop, drop-cons, eq-eqb, ne-eqb, eqb-true, eqb-false}
+use Rattle.lemmas.proofs.Cases.{by-cases}
 use Rattle.text.specs.Text.{zeroUnit, isEmpty, isText}
 
 -- no unit, or half of one, is no text

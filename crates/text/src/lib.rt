@@ -1,9 +1,19 @@
-// Document 01, "Group Key Envelope", 10: the rule that the four texts of an envelope follow.
+// Document 01, "Group Key Envelope": the rule that the four texts of an envelope follow.
 ghost use mathlib.Core.Path.{_≡_};
-ghost use Rattle.text.specs.Text.{isText, zeroUnit};
+ghost use Rattle.refusal.specs.Chain.{firstOf};
+ghost use Rattle.text.specs.Text.{isText, textChecks, zeroUnit};
+use refusal::Outcome;
+use refusal::Refusal;
 
-// A text: whole 16-bit units, the last one zero and no earlier one zero.
-pub fn is_text(s: &[u8]) -> bool
+// Whether a text is accepted, or its refusal.
+pub fn judge(s: &[u8]) -> Outcome
+    ensures { λ r. ⌜ r ≡ firstOf (textChecks (now (s .entry))) ⌝ }
+{
+    Outcome::Accepted.refuse_if(!is_text(s), Refusal::MalformedText)
+}
+
+// Whole 16-bit units, the last one zero and no earlier one zero.
+fn is_text(s: &[u8]) -> bool
     ensures { λ r. ⌜ r ≡ isText (now (s .entry)) ⌝ }
 {
     let mut at = 0;

@@ -1,14 +1,8 @@
 -- Laws of numbers in bytes, shown once over the width: stored and read back, read and stored, and how far a number goes.
-use Prim.Native.Nat.{ℕ, zero, suc, _+_, _*_, _/_, _%_, _^_, _≤_, _<_}
-use native.Mathlib.Nat.{pow-suc, pow-succ', mul-assoc}
-use native.Mathlib.Omega.{arith}
-use mathlib.Core.Path.{_≡_, refl, sym, ap, _∙_}
-use mathlib.Core.List.{List, [], _∷_, _++_, reverse, reverseAux, reverse-reverse}
-use lib.Dec.{leb}
-use lib.ListN.{length, getD, take, drop, length-reverse}
+use Rattle.lemmas.proofs.Basics.{ℕ, zero, suc, _+_, _*_, _/_, _%_, _^_, _≤_, _<_, arith, mul-assoc, pow-suc, pow-succ', List, [], _∷_, _++_, reverse, reverseAux, reverse-reverse, _≡_, refl, sym, ap, _∙_, leb, length, getD, take, drop, length-reverse}
 use Rattle.wire.specs.Numbers.{leOf, leBytes, beOf, beBytes}
 use Rattle.wire.specs.Parts.{partOf, leAt, beAt, joined}
-use Rattle.refusal.proofs.Cases.{cond-cases}
+use Rattle.lemmas.proofs.Cases.{cond-cases}
 use Rattle.wire.proofs.Parts.{piece-part, length-part}
 
 -- each element is a byte
@@ -65,10 +59,6 @@ pub be-bytes-back : (bs : List ℕ) → Bytes bs → beBytes (length bs) (beOf b
 unfolding beOf beBytes
 be-bytes-back bs p =
     ap (λ n. reverse (leBytes n (leOf (reverse bs)))) (sym (length-reverse bs)) ∙ ap reverse (bytes-back (reverse bs) (bytes-turned bs [] p tt)) ∙ reverse-reverse bs
-
-pub be-below : (bs : List ℕ) → Bytes bs → beOf bs < 256 ^ length bs
-unfolding beOf
-be-below bs p = rw (length-reverse bs) at (le-below (reverse bs) (bytes-turned bs [] p tt))
 
 -- a list by its places
 abbrev pub places : ℕ → (ℕ → ℕ) → List ℕ

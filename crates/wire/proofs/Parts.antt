@@ -1,14 +1,6 @@
 -- Laws of parts: those that lie inside, those that do not, parts of what was put together, and parts that follow each other.
-use Prim.Native.Nat.{ℕ, zero, suc, _+_, _-_, _≤_, _<_}
-use native.Mathlib.Omega.{arith}
-use mathlib.Core.Path.{_≡_, refl, sym, ap, _∙_}
-use mathlib.Core.List.{List, [], _∷_, _++_, append-assoc}
-use lib.ListN.{length, getD, take, drop, length-append, length-drop}
-use lib.Seq.{length-take-le, take-at, drop-at, take-add, drop-drop, take-length, take-append-le, drop-append-le, drop-append-seam}
-use mathlib.Core.Bool.{cond}
-use lib.Dec.{leb}
-use borrow.Author.Tests.{le-leb, lt-leb, leb-true, leb-false}
-use Rattle.refusal.proofs.Cases.{by-cases, leb-same}
+use Rattle.lemmas.proofs.Basics.{ℕ, zero, suc, _+_, _-_, _≤_, _<_, arith, cond, List, [], _∷_, _++_, append-assoc, _≡_, refl, sym, ap, _∙_, leb, length, getD, take, drop, length-append, length-drop, length-take-le, take-at, take-add, take-length, take-append-le, drop-at, drop-drop, drop-append-le, drop-append-seam, le-leb, lt-leb, leb-true, leb-false}
+use Rattle.lemmas.proofs.Cases.{by-cases, leb-same}
 use Rattle.wire.specs.Parts.{partOf, startOf, joined}
 
 pub part-in : (s : List ℕ) (at len : ℕ) → at + len ≤ length s → partOf s at len ≡ take len (drop at s)

@@ -27,11 +27,11 @@ pub fn part(s: &[u8], span: Span) -> &[u8]
     &s[0..0]
 }
 
-// Four bytes as a number, the least significant first.
+// Four bytes as a number, the least significant first. A flat sum is compiled to one load.
 fn le32_of(b0: u8, b1: u8, b2: u8, b3: u8) -> u32
     ensures { λ r. ⌜ r ≡ leOf (b0 ∷ b1 ∷ b2 ∷ b3 ∷ []) ⌝ }
 {
-    b0 as u32 + 256 * (b1 as u32 + 256 * (b2 as u32 + 256 * (b3 as u32)))
+    b0 as u32 + 256 * (b1 as u32) + 65536 * (b2 as u32) + 16777216 * (b3 as u32)
 }
 
 // Two halves as one number.
@@ -93,7 +93,7 @@ pub fn copy_into(dst: &mut [u8], src: &[u8])
 }
 
 // A u32 put at the start of a lent part, little-endian.
-pub fn put_le32(dst: &mut [u8], x: u32)
+fn put_le32(dst: &mut [u8], x: u32)
     ensures { λ _. ⌜ now (dst .exit) ≡ onto (leBytes 4 x) (now (dst .entry)) ⌝ }
 {
     let b = [
@@ -101,23 +101,6 @@ pub fn put_le32(dst: &mut [u8], x: u32)
         (x / 256 % 256) as u8,
         (x / 256 / 256 % 256) as u8,
         (x / 256 / 256 / 256 % 256) as u8,
-    ];
-    copy_into(dst, &b);
-}
-
-// A u64 put at the start of a lent part, little-endian.
-pub fn put_le64(dst: &mut [u8], x: u64)
-    ensures { λ _. ⌜ now (dst .exit) ≡ onto (leBytes 8 x) (now (dst .entry)) ⌝ }
-{
-    let b = [
-        (x % 256) as u8,
-        (x / 256 % 256) as u8,
-        (x / 256 / 256 % 256) as u8,
-        (x / 256 / 256 / 256 % 256) as u8,
-        (x / 256 / 256 / 256 / 256 % 256) as u8,
-        (x / 256 / 256 / 256 / 256 / 256 % 256) as u8,
-        (x / 256 / 256 / 256 / 256 / 256 / 256 % 256) as u8,
-        (x / 256 / 256 / 256 / 256 / 256 / 256 / 256 % 256) as u8,
     ];
     copy_into(dst, &b);
 }

@@ -38,7 +38,7 @@ use crate::{calls, raw, Form, Gkid, Refusal, RootId};
 /// ```
 #[derive(Debug, Clone, Copy, PartialEq, Eq, Hash, Default)]
 pub struct Head {
-    /// dwVersion, which may be anything.
+    /// Version, which may be anything.
     pub version: u32,
     /// dwFlags: the bit with the value 1 is public, the others may be anything.
     pub flags: u32,

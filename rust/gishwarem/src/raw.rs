@@ -125,7 +125,7 @@ pub struct EfsKeyAnswer {
 #[repr(C)]
 #[derive(Debug, Clone, Copy, PartialEq, Eq, Default)]
 pub struct Head {
-    /// dwVersion.
+    /// Version.
     pub version: u32,
     /// dwFlags.
     pub flags: u32,

@@ -1,4 +1,4 @@
-//! Refusals: the numbers 1 to 23, by name and in words.
+//! Refusals: the numbers of the table, by name and in words. Numbers may leave gaps.
 
 use std::error::Error;
 use std::fmt;
@@ -66,13 +66,14 @@ pub enum Refusal {
 }
 
 impl Refusal {
-    /// Every refusal, in the order of the numbers.
+    /// Every refusal, in the order of the numbers, which may leave gaps.
     ///
     /// ```
     /// use gishwarem::Refusal;
     ///
     /// let numbers = Refusal::ALL.map(Refusal::number);
-    /// assert!(numbers.into_iter().eq(1..=23));
+    /// assert!(numbers.windows(2).all(|pair| pair[0] < pair[1]));
+    /// assert!(!numbers.contains(&0));
     /// ```
     pub const ALL: [Refusal; 23] = [
         Refusal::TooLong,
@@ -119,7 +120,7 @@ impl Refusal {
     ///
     /// assert_eq!(Refusal::from_number(9), Some(Refusal::UnusedRun));
     /// assert_eq!(Refusal::from_number(0), None);
-    /// assert_eq!(Refusal::from_number(24), None);
+    /// assert_eq!(Refusal::from_number(u32::MAX), None);
     /// ```
     pub fn from_number(number: u32) -> Option<Refusal> {
         Refusal::ALL

@@ -30,13 +30,15 @@ fn definitions(from: &str, to: &str) -> Vec<(String, u32)> {
         .collect()
 }
 
-/// The texts of `gw_refusal_text`, in their order.
-fn texts() -> Vec<&'static str> {
-    let (_, after) = HEADER.split_once("text[] = {").expect("the texts");
-    let (texts, _) = after.split_once("};").expect("the end of the texts");
-    texts
+/// The names and texts of `gw_refusal_text`, in their order.
+fn texts() -> Vec<(String, &'static str)> {
+    HEADER
         .lines()
-        .filter_map(|line| line.trim().strip_prefix('"')?.strip_suffix("\","))
+        .filter_map(|line| line.trim().strip_prefix("case ")?.split_once(": return \""))
+        .map(|(name, text)| {
+            let text = text.strip_suffix("\";").expect("the end of a text");
+            (name.replace('_', ""), text)
+        })
         .collect()
 }
 
@@ -50,9 +52,14 @@ fn refusals_have_the_headers_names_and_numbers() {
 
 #[test]
 fn refusals_have_the_headers_texts() {
-    let mut expected = vec!["accepted".to_string()];
-    expected.extend(Refusal::ALL.map(|refusal| refusal.to_string()));
-    assert_eq!(texts(), expected);
+    let refusals = Refusal::ALL.map(|refusal| (plain_name(refusal), refusal.to_string()));
+    let mut expected = vec![("GWACCEPTED".to_string(), "accepted".to_string())];
+    expected.extend(refusals);
+    let found: Vec<(String, String)> = texts()
+        .into_iter()
+        .map(|(name, text)| (name, text.to_string()))
+        .collect();
+    assert_eq!(found, expected);
 }
 
 /// Every code of the header, and no other, is a constant of the same name and number in `raw::codes`.

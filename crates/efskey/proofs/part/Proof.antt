@@ -1,7 +1,5 @@
 -- `part`: the part of the slice that the answer shows, which lies inside.
-use Prim.Native.Nat.{_+_}
-use mathlib.Core.Path.{ap, _∙_}
-use borrow.Author.Needs.{needs}
+use Rattle.lemmas.proofs.Basics.{_+_, ap, _∙_, needs}
 use Rattle.wire.specs.Parts.{partOf, startOf}
 use Rattle.wire.proofs.Parts.{start-in}
 use Rattle.efskey.specs.Reading.{keyPart, spanOf}

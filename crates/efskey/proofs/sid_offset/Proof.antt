@@ -1,5 +1,5 @@
 -- `sid_offset`: none, or the place behind the head.
-use borrow.Author.Tests.{eq-eqb, ne-eqb}
+use Rattle.lemmas.proofs.Basics.{eq-eqb, ne-eqb}
 use Rattle.efskey.proofs.sid_offset.Statement.{statement}
 use Rattle.efskey.proofs.sid_offset.Tie as tie
 

@@ -1,6 +1,5 @@
 -- `write`: the output is filled where the answer is the record's length.
-use mathlib.Core.Path.{sym, _∙_}
-use borrow.Author.Needs.{needs}
+use Rattle.lemmas.proofs.Basics.{sym, _∙_, needs}
 use Rattle.records.specs.Writing.{outputOf}
 use Rattle.efskey.proofs.Writing.{written-well-formed, within-limit}
 use Rattle.efskey.proofs.write.Statement.{statement}

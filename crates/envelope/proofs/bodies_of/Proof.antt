@@ -1,7 +1,6 @@
 -- `bodies_of`: each body begins where the one before it ends.
-use mathlib.Core.Path.{refl}
+use Rattle.lemmas.proofs.Basics.{refl, needs}
 use Rattle.envelope.specs.Layout.{bodiesOf}
-use borrow.Author.Needs.{needs}
 use Rattle.envelope.proofs.bodies_of.Statement.{statement}
 use Rattle.envelope.proofs.bodies_of.Tie as tie
 
@@ -10,29 +9,9 @@ unfolding bodiesOf
 returns c = refl
 
 pub bodies-of-spec : {M : Type 1} → statement M
-bodies-of-spec =
-    tie.close
-    (tie.spec
-    (λ c. search needs)
-    (λ c. search needs)
-    (λ c. search needs)
-    (λ c. search needs)
-    (λ c. search needs)
-    (λ c. search needs)
-    (λ c. search needs)
-    (λ c. search needs)
-    (λ c. search needs)
-    (λ c. search needs)
-    (λ c. search needs)
-    (λ c. search needs)
-    (λ c. search needs)
-    (λ c. search needs)
-    (λ c. search needs)
-    (λ c. search needs)
-    (λ c. search needs)
-    (λ c. search needs)
-    (λ c. search needs)
-    (λ c. search needs)
-    (λ c. search needs)
-    (λ c. search needs)
+bodies-of-spec = tie.close (tie.spec
+    (λ c. search needs) (λ c. search needs) (λ c. search needs) (λ c. search needs) (λ c. search needs) (λ c. search needs)
+    (λ c. search needs) (λ c. search needs) (λ c. search needs) (λ c. search needs) (λ c. search needs) (λ c. search needs)
+    (λ c. search needs) (λ c. search needs) (λ c. search needs) (λ c. search needs) (λ c. search needs) (λ c. search needs)
+    (λ c. search needs) (λ c. search needs) (λ c. search needs) (λ c. search needs)
     returns)

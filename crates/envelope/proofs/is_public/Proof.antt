@@ -1,5 +1,5 @@
 -- `is_public`: the lowest bit.
-use mathlib.Core.Path.{refl}
+use Rattle.lemmas.proofs.Basics.{refl}
 use Rattle.envelope.specs.Layout.{isPublic}
 use Rattle.envelope.proofs.is_public.Statement.{statement}
 use Rattle.envelope.proofs.is_public.Tie as tie

@@ -1,6 +1,6 @@
 -- `lengths_of`: field by field.
 use Rattle.envelope.specs.Layout.{lengthsOf}
-use borrow.Author.Needs.{needs}
+use Rattle.lemmas.proofs.Basics.{needs}
 use Rattle.envelope.proofs.lengths_of.Statement.{statement}
 use Rattle.envelope.proofs.lengths_of.Tie as tie
 
@@ -20,15 +20,7 @@ returns c =
     }
 
 pub lengths-of-spec : {M : Type 1} → statement M
-lengths-of-spec =
-    tie.close
-    (tie.spec
-    (λ c κs. search needs)
-    (λ c κs. search needs)
-    (λ c κs. search needs)
-    (λ c κs. search needs)
-    (λ c κs. search needs)
-    (λ c κs. search needs)
-    (λ c κs. search needs)
-    (λ c κs. search needs)
+lengths-of-spec = tie.close (tie.spec
+    (λ c κs. search needs) (λ c κs. search needs) (λ c κs. search needs) (λ c κs. search needs) (λ c κs. search needs)
+    (λ c κs. search needs) (λ c κs. search needs) (λ c κs. search needs)
     returns)

@@ -1,14 +1,9 @@
 -- `put`: the head, then four bodies, then four more, each run into the part that it is lent.
-use Prim.Native.Nat.{_+_}
-use native.Mathlib.Omega.{arith}
-use mathlib.Core.List.{[], _++_}
-use mathlib.Core.Path.{refl, sym, ap, _∙_}
-use lib.ListN.{length, length-append}
+use Rattle.lemmas.proofs.Basics.{_+_, arith, [], _++_, refl, sym, ap, _∙_, length, length-append, needs}
 use Rattle.wire.specs.Parts.{onto, joined}
 use Rattle.wire.proofs.Writing.{lent, onto-none, length-onto}
 use Rattle.envelope.specs.Writing.{given, givenLengths, headPieces}
 use Rattle.envelope.proofs.Writing.{bytes-are, length-head, four-long}
-use borrow.Author.Needs.{needs}
 use Rattle.envelope.proofs.put.Statement.{statement}
 use Rattle.envelope.proofs.put.Tie as tie
 
@@ -34,36 +29,11 @@ same-length : tie.Need-same-length
 same-length c = ap length (returns c) ∙ length-onto _ _
 
 pub put-spec : {M : Type 1} → statement M
-put-spec =
-    tie.close
-    (tie.spec
-    (λ c. search needs)
-    (λ c. search needs)
-    (λ c. search needs)
-    (λ c. search needs)
-    (λ c. search needs)
-    (λ c. search needs)
-    (λ c. search needs)
-    (λ c. search needs)
-    (λ c. search needs)
-    (λ c. search needs)
-    (λ c. search needs)
-    (λ c. search needs)
-    (λ c. search needs)
-    (λ c. search needs)
-    (λ c. search needs)
-    (λ c. search needs)
-    (λ c. search needs)
-    (λ c. search needs)
-    (λ c. search needs)
-    (λ c κs. search needs)
-    (λ c. search needs)
-    (λ c. search needs)
-    (λ c. search needs)
-    (λ c κs. search needs)
-    (λ c. search needs)
-    (λ c. search needs)
-    (λ c. search needs)
-    (λ c κs. search needs)
+put-spec = tie.close (tie.spec
+    (λ c. search needs) (λ c. search needs) (λ c. search needs) (λ c. search needs) (λ c. search needs) (λ c. search needs)
+    (λ c. search needs) (λ c. search needs) (λ c. search needs) (λ c. search needs) (λ c. search needs) (λ c. search needs)
+    (λ c. search needs) (λ c. search needs) (λ c. search needs) (λ c. search needs) (λ c. search needs) (λ c. search needs)
+    (λ c. search needs) (λ c κs. search needs) (λ c. search needs) (λ c. search needs) (λ c. search needs)
+    (λ c κs. search needs) (λ c. search needs) (λ c. search needs) (λ c. search needs) (λ c κs. search needs)
     same-length
     returns)

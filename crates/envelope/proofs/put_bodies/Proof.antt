@@ -1,11 +1,6 @@
 -- `put_bodies`: each body into the part that it is lent.
-use Prim.Native.Nat.{_+_}
-use native.Mathlib.Omega.{arith}
-use mathlib.Core.List.{[], _++_}
-use mathlib.Core.Path.{refl, sym}
-use lib.ListN.{length, length-append}
+use Rattle.lemmas.proofs.Basics.{_+_, arith, [], _++_, refl, sym, length, length-append, needs}
 use Rattle.wire.proofs.Writing.{lent, onto-none}
-use borrow.Author.Needs.{needs}
 use Rattle.envelope.proofs.put_bodies.Statement.{statement}
 use Rattle.envelope.proofs.put_bodies.Tie as tie
 
@@ -25,27 +20,9 @@ returns c =
     lent ((a ++ b) ++ x) (g .d .now) dst third (third + length (g .d .now)) r3 (omega (arith, length-append (a ++ b) x, length-append a b)) refl (omega arith) (c .before .before .copy-into4 .ensures)
 
 pub put-bodies-spec : {M : Type 1} → statement M
-put-bodies-spec =
-    tie.close
-    (tie.spec
-    (λ c. search needs)
-    (λ c. search needs)
-    (λ c. search needs)
-    (λ c. search needs)
-    (λ c. search needs)
-    (λ c. search needs)
-    (λ c κs. search needs)
-    (λ c. search needs)
-    (λ c. search needs)
-    (λ c. search needs)
-    (λ c κs. search needs)
-    (λ c. search needs)
-    (λ c. search needs)
-    (λ c. search needs)
-    (λ c κs. search needs)
-    (λ c. search needs)
-    (λ c. search needs)
-    (λ c. search needs)
-    (λ c κs. search needs)
-    (λ c. search needs)
+put-bodies-spec = tie.close (tie.spec
+    (λ c. search needs) (λ c. search needs) (λ c. search needs) (λ c. search needs) (λ c. search needs) (λ c. search needs)
+    (λ c κs. search needs) (λ c. search needs) (λ c. search needs) (λ c. search needs) (λ c κs. search needs)
+    (λ c. search needs) (λ c. search needs) (λ c. search needs) (λ c κs. search needs) (λ c. search needs) (λ c. search needs)
+    (λ c. search needs) (λ c κs. search needs) (λ c. search needs)
     returns)

@@ -1,14 +1,10 @@
 -- `put_head`: the numbers before the root identifier, that identifier, and the numbers behind it.
-use native.Mathlib.Omega.{arith}
-use mathlib.Core.List.{[], _++_}
-use mathlib.Core.Path.{refl, sym, ap, _∙_}
-use lib.ListN.{length-append}
+use Rattle.lemmas.proofs.Basics.{arith, [], _++_, refl, sym, ap, _∙_, length-append, needs}
 use Rattle.wire.specs.Parts.{onto, le32Bytes}
 use Rattle.wire.proofs.Writing.{lent, onto-none, length-le32Bytes}
 use Rattle.rootid.specs.Root.{rootBytes}
 use Rattle.rootid.proofs.Roots.{length-rootBytes}
 use Rattle.envelope.proofs.Writing.{front, back, head-runs}
-use borrow.Author.Needs.{needs}
 use Rattle.envelope.proofs.put_head.Statement.{statement}
 use Rattle.envelope.proofs.put_head.Tie as tie
 
@@ -28,22 +24,8 @@ returns c =
     r3 ∙ ap (λ bs. onto bs dst) (head-runs (a .head) (a .n))
 
 pub put-head-spec : {M : Type 1} → statement M
-put-head-spec =
-    tie.close
-    (tie.spec
-    (λ c. search needs)
-    (λ c. search needs)
-    (λ c. search needs)
-    (λ c. search needs)
-    (λ c κs. search needs)
-    (λ c. search needs)
-    (λ c. search needs)
-    (λ c. search needs)
-    (λ c κs. search needs)
-    (λ c. search needs)
-    (λ c. search needs)
-    (λ c. search needs)
-    (λ c. search needs)
-    (λ c κs. search needs)
-    (λ c. search needs)
+put-head-spec = tie.close (tie.spec
+    (λ c. search needs) (λ c. search needs) (λ c. search needs) (λ c. search needs) (λ c κs. search needs) (λ c. search needs)
+    (λ c. search needs) (λ c. search needs) (λ c κs. search needs) (λ c. search needs) (λ c. search needs) (λ c. search needs)
+    (λ c. search needs) (λ c κs. search needs) (λ c. search needs)
     returns)

@@ -1,9 +1,8 @@
 -- `read`: 1 and 2 by the length; then the head and the lengths are judged, and the outcome is told.
-use mathlib.Core.Path.{refl, sym, _∙_}
+use Rattle.lemmas.proofs.Basics.{refl, sym, _∙_, needs}
 use Rattle.envelope.specs.Layout.{bodiesOf}
-use Rattle.envelope.specs.Reading.{answer}
+use Rattle.refusal.specs.Chain.{unlessRefused}
 use Rattle.envelope.proofs.Reading.{envelope-long, envelope-short, envelope-judged}
-use borrow.Author.Needs.{needs}
 use Rattle.envelope.proofs.read.Statement.{statement}
 use Rattle.envelope.proofs.read.Tie as tie
 
@@ -14,7 +13,7 @@ returns-2 : tie.Need-returns-2
 returns-2 c = sym (envelope-short _ (c .before .if1 .left) (c .if2 .taken))
 
 returns-3 : tie.Need-returns-3
-unfolding answer
+unfolding unlessRefused
 returns-3 c =
     let j = c .before .before .before in
     let h = j .before .before .before in
@@ -23,7 +22,7 @@ returns-3 c =
     (sym (c .before .enum-told .given .1) ∙ j .judge .ensures))
 
 returns-4 : tie.Need-returns-4
-unfolding answer
+unfolding unlessRefused
 returns-4 c =
     let j = c .before .before .before in
     let h = j .before .before .before in
@@ -32,17 +31,10 @@ returns-4 c =
     (sym (c .before .refusal .given .1) ∙ j .judge .ensures))
 
 pub read-spec : {M : Type 1} → statement M
-read-spec =
-    tie.close
-    (tie.spec
+read-spec = tie.close (tie.spec
     returns
     returns-2
-    (λ c κs. search needs)
-    (λ c κs. search needs)
-    (λ c κs. search needs)
-    (λ c κs. search needs)
-    (λ c. search needs)
-    (λ c κs. search needs)
-    (λ c. search needs)
+    (λ c κs. search needs) (λ c κs. search needs) (λ c κs. search needs) (λ c κs. search needs) (λ c. search needs)
+    (λ c κs. search needs) (λ c. search needs)
     returns-3
     returns-4)

@@ -1,6 +1,6 @@
 -- `span_in`: the body asked for is told.
 use Rattle.envelope.specs.Layout.{bodySpan}
-use borrow.Author.Needs.{needs}
+use Rattle.lemmas.proofs.Basics.{needs}
 use Rattle.envelope.proofs.span_in.Statement.{statement}
 use Rattle.envelope.proofs.span_in.Tie as tie
 
@@ -37,17 +37,9 @@ unfolding bodySpan
 returns-8 c = rw (c .before .enum-told8 .given .1)
 
 pub span-in-spec : {M : Type 1} → statement M
-span-in-spec =
-    tie.close
-    (tie.spec
-    (λ c. search needs)
-    (λ c. search needs)
-    (λ c. search needs)
-    (λ c. search needs)
-    (λ c. search needs)
-    (λ c. search needs)
-    (λ c. search needs)
-    (λ c. search needs)
+span-in-spec = tie.close (tie.spec
+    (λ c. search needs) (λ c. search needs) (λ c. search needs) (λ c. search needs) (λ c. search needs) (λ c. search needs)
+    (λ c. search needs) (λ c. search needs)
     returns
     returns-2
     returns-3

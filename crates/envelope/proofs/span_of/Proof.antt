@@ -1,6 +1,6 @@
 -- `span_of`: the answer is told; a refusal has no place.
 use Rattle.envelope.specs.Reading.{spanOf}
-use borrow.Author.Needs.{needs}
+use Rattle.lemmas.proofs.Basics.{needs}
 use Rattle.envelope.proofs.span_of.Statement.{statement}
 use Rattle.envelope.proofs.span_of.Tie as tie
 

@@ -1,9 +1,8 @@
 -- `decide`: the refusal of the checks, or what is granted.
-use Prim.Native.Nat.{_<_, _^_}
-use mathlib.Core.Path.{sym, _∙_}
-use Rattle.getkey.specs.Deciding.{unlessRefused, decision}
+use Rattle.lemmas.proofs.Basics.{_^_, _<_, sym, _∙_, needs}
+use Rattle.refusal.specs.Chain.{unlessRefused}
+use Rattle.getkey.specs.Deciding.{decision}
 use Rattle.getkey.proofs.Decisions.{passed, starts}
-use borrow.Author.Needs.{needs}
 use Rattle.getkey.proofs.decide.Statement.{statement}
 use Rattle.getkey.proofs.decide.Tie as tie
 
@@ -24,14 +23,8 @@ unfolding decision unlessRefused
 returns-2 c = rw (← c .before .before .before .before .before .at .ensures, ← c .before .before .before .before .judge .ensures, c .before .before .enum-told .given .1, ← c .before .narrowed .ensures) (c .grant .ensures)
 
 pub decide-spec : {M : Type 1} → statement M
-decide-spec =
-    tie.close
-    (tie.spec
-    (λ c κs. search needs)
-    (λ c κs. search needs)
-    (λ c. search needs)
-    (λ c. search needs)
-    (λ c κs. search needs)
+decide-spec = tie.close (tie.spec
+    (λ c κs. search needs) (λ c κs. search needs) (λ c. search needs) (λ c. search needs) (λ c κs. search needs)
     grant-requires
     returns
     returns-2)

@@ -1,6 +1,6 @@
 -- `grant`: the row chosen, or none.
 use Rattle.getkey.specs.Deciding.{withRow, granting}
-use borrow.Author.Needs.{needs}
+use Rattle.lemmas.proofs.Basics.{needs}
 use Rattle.getkey.proofs.grant.Statement.{statement}
 use Rattle.getkey.proofs.grant.Tie as tie
 
@@ -17,15 +17,8 @@ returns-2 c =
     rw (← told .before .before .granted-at .ensures, ← told .before .form .ensures, ← told .row-wanted .ensures, ← c .before .before .before .choose .ensures, c .before .enum-told .given .1) (c .without-row .ensures)
 
 pub grant-spec : {M : Type 1} → statement M
-grant-spec =
-    tie.close
-    (tie.spec
-    (λ c κs. search needs)
-    (λ c κs. search needs)
-    (λ c κs. search needs)
-    (λ c κs. search needs)
-    (λ c. search needs)
-    (λ c. search needs)
-    (λ c κs. search needs)
+grant-spec = tie.close (tie.spec
+    (λ c κs. search needs) (λ c κs. search needs) (λ c κs. search needs) (λ c κs. search needs) (λ c. search needs)
+    (λ c. search needs) (λ c κs. search needs)
     returns
     returns-2)

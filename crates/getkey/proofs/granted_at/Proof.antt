@@ -1,7 +1,6 @@
 -- `granted_at`: by cases, and the one test.
 use Rattle.getkey.specs.Deciding.{grantedAt}
-use borrow.Author.Tests.{lt-ltb, le-ltb}
-use borrow.Author.Needs.{needs}
+use Rattle.lemmas.proofs.Basics.{needs, lt-ltb, le-ltb}
 use Rattle.getkey.proofs.granted_at.Statement.{statement}
 use Rattle.getkey.proofs.granted_at.Tie as tie
 
@@ -26,14 +25,10 @@ returns-4 c =
     rw (told .before .before .before .asked .given .1, told .enum-told3 .given .1) (search le-ltb)
 
 pub granted-at-spec : {M : Type 1} → statement M
-granted-at-spec =
-    tie.close
-    (tie.spec
-    (λ c. search needs)
-    (λ c. search needs)
+granted-at-spec = tie.close (tie.spec
+    (λ c. search needs) (λ c. search needs)
     returns
-    (λ c. search needs)
-    (λ c. search needs)
+    (λ c. search needs) (λ c. search needs)
     returns-2
     returns-3
     returns-4)

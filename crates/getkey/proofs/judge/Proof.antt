@@ -1,8 +1,7 @@
 -- `judge`: one test after the other; the first that holds is the answer.
-use mathlib.Core.Path.{sym, ap, _∙_}
+use Rattle.lemmas.proofs.Basics.{sym, ap, _∙_, needs}
 use Rattle.refusal.specs.Chain.{firstOf}
 use Rattle.getkey.specs.Deciding.{rightsTooLow, checks}
-use borrow.Author.Needs.{needs}
 use Rattle.getkey.proofs.judge.Statement.{statement}
 use Rattle.getkey.proofs.judge.Tie as tie
 
@@ -55,9 +54,7 @@ returns-7 c = let i5 = c .before .before in
     rw ((i1 .if1 .left), (sym (i2 .before .out-of-range .ensures) ∙ i2 .if2 .left), (sym (i3 .before .is-mixed .ensures) ∙ i3 .if3 .left), (sym (i4 .before .is-later-than .ensures) ∙ i4 .if4 .left), (sym (i5 .before .are-too-low .ensures ∙ ap (rightsTooLow _) (i5 .before .before .names-one .ensures)) ∙ i5 .if5 .left), (sym (c .before .is-table-wrong .ensures) ∙ c .if6 .left))
 
 pub judge-spec : {M : Type 1} → statement M
-judge-spec =
-    tie.close
-    (tie.spec
+judge-spec = tie.close (tie.spec
     returns
     (λ c κs. search needs)
     returns-2
@@ -65,8 +62,7 @@ judge-spec =
     returns-3
     (λ c κs. search needs)
     returns-4
-    (λ c κs. search needs)
-    (λ c κs. search needs)
+    (λ c κs. search needs) (λ c κs. search needs)
     returns-5
     (λ c κs. search needs)
     returns-6

@@ -1,6 +1,6 @@
 -- `row_wanted`: by cases.
 use Rattle.getkey.specs.Deciding.{wantedOf}
-use borrow.Author.Needs.{needs}
+use Rattle.lemmas.proofs.Basics.{needs}
 use Rattle.getkey.proofs.row_wanted.Statement.{statement}
 use Rattle.getkey.proofs.row_wanted.Tie as tie
 
@@ -20,13 +20,8 @@ unfolding wantedOf
 returns-3 c = rw (c .before .before .before .before .enum-told .given .1, c .before .before .asked .given .1, c .start-of .ensures)
 
 pub row-wanted-spec : {M : Type 1} → statement M
-row-wanted-spec =
-    tie.close
-    (tie.spec
-    (λ c. search needs)
-    (λ c. search needs)
-    (λ c. search needs)
-    (λ c. search needs)
+row-wanted-spec = tie.close (tie.spec
+    (λ c. search needs) (λ c. search needs) (λ c. search needs) (λ c. search needs)
     start-of-requires
     returns
     returns-2

@@ -1,9 +1,6 @@
 -- `start_of`: the start, which is not refused.
-use Prim.Native.Nat.{ℕ}
-use native.Mathlib.Omega.{arith}
-use mathlib.Core.Path.{_≡_, sym, _∙_}
+use Rattle.lemmas.proofs.Basics.{ℕ, arith, _≡_, sym, _∙_, needs}
 use Rattle.gkid.proofs.Times.{start-is}
-use borrow.Author.Needs.{needs}
 use Rattle.getkey.proofs.start_of.Statement.{statement}
 use Rattle.getkey.proofs.start_of.Tie as tie
 

@@ -1,6 +1,6 @@
 -- `without_row`: by cases.
 use Rattle.getkey.specs.Deciding.{withoutRow}
-use borrow.Author.Needs.{needs}
+use Rattle.lemmas.proofs.Basics.{needs}
 use Rattle.getkey.proofs.without_row.Statement.{statement}
 use Rattle.getkey.proofs.without_row.Tie as tie
 

@@ -1,7 +1,5 @@
 -- `do_overlap`: neither item ends before the other begins.
-use mathlib.Core.Bool.{not}
-use mathlib.Core.Path.{ap}
-use borrow.Author.Needs.{needs}
+use Rattle.lemmas.proofs.Basics.{not, ap, needs}
 use Rattle.keyentry.specs.Layout.{overlap}
 use Rattle.keyentry.proofs.do_overlap.Statement.{statement}
 use Rattle.keyentry.proofs.do_overlap.Tie as tie

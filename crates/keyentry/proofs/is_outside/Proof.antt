@@ -1,5 +1,5 @@
 -- `is_outside`: either end lies outside.
-use borrow.Author.Needs.{needs}
+use Rattle.lemmas.proofs.Basics.{needs}
 use Rattle.keyentry.specs.Layout.{outside}
 use Rattle.keyentry.proofs.is_outside.Statement.{statement}
 use Rattle.keyentry.proofs.is_outside.Tie as tie

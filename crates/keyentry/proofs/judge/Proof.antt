@@ -1,7 +1,5 @@
 -- `judge`: one check after the other; a rule that is called tells its own test.
-use mathlib.Core.Path.{sym, _∙_}
-use borrow.Author.Needs.{needs}
-use borrow.Author.Tests.{eq-eqb, ne-eqb, lt-ltb, le-ltb}
+use Rattle.lemmas.proofs.Basics.{sym, _∙_, needs, lt-ltb, le-ltb, eq-eqb, ne-eqb}
 use Rattle.refusal.specs.Chain.{firstOf}
 use Rattle.keyentry.specs.Layout.{layoutChecks}
 use Rattle.keyentry.proofs.judge.Statement.{statement}
@@ -46,9 +44,7 @@ unfolding layoutChecks firstOf
 returns-9 c = search (sym (c .before .before .before .before .before .before .before .before .before .before .is-outside .ensures) ∙ c .before .before .before .before .before .before .before .before .before .if2 .left, sym (c .before .before .before .before .before .is-outside2 .ensures) ∙ c .before .before .before .before .if6 .left, sym (c .before .before .before .do-overlap .ensures) ∙ c .before .before .if7 .left, sym (c .before .has-long-run .ensures) ∙ c .if8 .left, tests)
 
 pub judge-spec : {M : Type 1} → statement M
-judge-spec =
-    tie.close
-    (tie.spec
+judge-spec = tie.close (tie.spec
     returns
     (λ c κs. search needs)
     returns-2

@@ -1,7 +1,6 @@
 -- `part`: where the item stands, by the reader's own answer; there the bytes are handed out.
-use mathlib.Core.Path.{ap, _∙_}
+use Rattle.lemmas.proofs.Basics.{ap, _∙_, needs}
 use Rattle.keyentry.specs.Reading.{spanOf}
-use borrow.Author.Needs.{needs}
 use Rattle.keyentry.proofs.part.Statement.{statement}
 use Rattle.keyentry.proofs.part.Tie as tie
 

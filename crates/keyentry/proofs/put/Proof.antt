@@ -1,13 +1,8 @@
 -- `put`: the head, then the item, then the FEK, each into the part that it is lent.
-use Prim.Native.Nat.{_+_}
-use native.Mathlib.Omega.{arith}
-use mathlib.Core.List.{[], _++_}
-use mathlib.Core.Path.{refl, sym, ap, _∙_}
-use lib.ListN.{length, length-append}
+use Rattle.lemmas.proofs.Basics.{_+_, arith, [], _++_, refl, sym, ap, _∙_, length, length-append, needs}
 use Rattle.wire.specs.Parts.{onto, le32Bytes}
 use Rattle.wire.proofs.Writing.{lent, onto-none, length-le32Bytes}
 use Rattle.keyentry.proofs.Writing.{head, bytes-are}
-use borrow.Author.Needs.{needs}
 use Rattle.keyentry.proofs.put.Statement.{statement}
 use Rattle.keyentry.proofs.put.Tie as tie
 
@@ -28,26 +23,9 @@ returns c =
     r3 ∙ ap (λ bs. onto bs out) (sym (bytes-are (a .flags) item fek))
 
 pub put-spec : {M : Type 1} → statement M
-put-spec =
-    tie.close
-    (tie.spec
-    (λ c. search needs)
-    (λ c. search needs)
-    (λ c. search needs)
-    (λ c. search needs)
-    (λ c. search needs)
-    (λ c. search needs)
-    (λ c. search needs)
-    (λ c. search needs)
-    (λ c. search needs)
-    (λ c κs. search needs)
-    (λ c. search needs)
-    (λ c. search needs)
-    (λ c. search needs)
-    (λ c κs. search needs)
-    (λ c. search needs)
-    (λ c. search needs)
-    (λ c. search needs)
-    (λ c κs. search needs)
-    (λ c. search needs)
+put-spec = tie.close (tie.spec
+    (λ c. search needs) (λ c. search needs) (λ c. search needs) (λ c. search needs) (λ c. search needs) (λ c. search needs)
+    (λ c. search needs) (λ c. search needs) (λ c. search needs) (λ c κs. search needs) (λ c. search needs) (λ c. search needs)
+    (λ c. search needs) (λ c κs. search needs) (λ c. search needs) (λ c. search needs) (λ c. search needs)
+    (λ c κs. search needs) (λ c. search needs)
     returns)

@@ -1,7 +1,6 @@
 -- `read`: 1 and 2 by the length; then the head's numbers are judged, and the outcome is told.
-use mathlib.Core.Path.{sym, _∙_}
-use borrow.Author.Needs.{needs}
-use Rattle.keyentry.specs.Reading.{answer}
+use Rattle.lemmas.proofs.Basics.{sym, _∙_, needs}
+use Rattle.refusal.specs.Chain.{unlessRefused}
 use Rattle.keyentry.proofs.Reading.{entry-long, entry-short, entry-judged}
 use Rattle.keyentry.proofs.read.Statement.{statement}
 use Rattle.keyentry.proofs.read.Tie as tie
@@ -13,7 +12,7 @@ returns-2 : tie.Need-returns-2
 returns-2 c = sym (entry-short _ (c .before .if1 .left) (c .if2 .taken))
 
 returns-3 : tie.Need-returns-3
-unfolding answer
+unfolding unlessRefused
 returns-3 c =
     let j = c .before .before in
     let at3 = j .before .before .before .before in
@@ -23,7 +22,7 @@ returns-3 c =
     (at3 .le32-at3 .ensures) (j .before .before .before .le32-at4 .ensures) (j .before .before .le32-at5 .ensures) (sym (c .enum-told .given .1) ∙ j .judge .ensures))
 
 returns-4 : tie.Need-returns-4
-unfolding answer
+unfolding unlessRefused
 returns-4 c =
     let j = c .before .before .before in
     let at3 = j .before .before .before .before in
@@ -33,24 +32,11 @@ returns-4 c =
     (at3 .le32-at3 .ensures) (j .before .before .before .le32-at4 .ensures) (j .before .before .le32-at5 .ensures) (sym (c .before .refusal .given .1) ∙ j .judge .ensures))
 
 pub read-spec : {M : Type 1} → statement M
-read-spec =
-    tie.close
-    (tie.spec
+read-spec = tie.close (tie.spec
     returns
     returns-2
-    (λ c κs. search needs)
-    (λ c. search needs)
-    (λ c κs. search needs)
-    (λ c κs. search needs)
-    (λ c κs. search needs)
-    (λ c κs. search needs)
-    (λ c κs. search needs)
-    (λ c κs. search needs)
-    (λ c. search needs)
-    (λ c. search needs)
-    (λ c. search needs)
-    (λ c. search needs)
-    (λ c. search needs)
-    (λ c. search needs)
+    (λ c κs. search needs) (λ c. search needs) (λ c κs. search needs) (λ c κs. search needs) (λ c κs. search needs)
+    (λ c κs. search needs) (λ c κs. search needs) (λ c κs. search needs) (λ c. search needs) (λ c. search needs)
+    (λ c. search needs) (λ c. search needs) (λ c. search needs) (λ c. search needs)
     returns-3
     returns-4)

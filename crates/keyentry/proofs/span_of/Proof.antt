@@ -1,6 +1,6 @@
 -- `span_of`: the answer and the part asked for are told apart.
 use Rattle.keyentry.specs.Reading.{spanOf}
-use borrow.Author.Needs.{needs}
+use Rattle.lemmas.proofs.Basics.{needs}
 use Rattle.keyentry.proofs.span_of.Statement.{statement}
 use Rattle.keyentry.proofs.span_of.Tie as tie
 

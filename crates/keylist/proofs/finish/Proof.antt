@@ -1,7 +1,5 @@
 -- `finish`: the end, or the bytes left.
-use mathlib.Core.Path.{_∙_}
-use borrow.Author.Needs.{needs}
-use borrow.Author.Tests.{eq-eqb, ne-eqb}
+use Rattle.lemmas.proofs.Basics.{_∙_, needs, eq-eqb, ne-eqb}
 use Rattle.keylist.specs.Stepping.{endAt, arrived, placeAfter}
 use Rattle.keylist.proofs.finish.Statement.{statement}
 use Rattle.keylist.proofs.finish.Tie as tie

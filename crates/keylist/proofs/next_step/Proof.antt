@@ -1,13 +1,8 @@
--- `next_step`: the whole list's checks, and the end; then 2, 3 and what the reader says of the entry's record, told apart.
-use Prim.Native.Nat.{_-_, _≤_, _<_}
-use native.Mathlib.Omega.{arith}
-use mathlib.Core.Path.{sym, ap, _∙_}
-use lib.ListN.{length}
-use borrow.Author.Tests.{lt-ltb, le-ltb}
-use Rattle.keylist.specs.Stepping.{arrived, placeAfter}
-use Rattle.keylist.specs.Reading.{lengthAt}
-use Rattle.keylist.proofs.Stepping.{step-long, step-short, step-entry, step-end, entry-short, entry-length, entered-accepted, entered-refused}
-use borrow.Author.Needs.{needs}
+-- `next_step`: the whole list's checks, and the end; then the list rule, and what the reader says of the entry's record, told apart.
+use Rattle.lemmas.proofs.Basics.{arith, _≡_, sym, ap, _∙_, needs}
+use Rattle.keyentry.specs.Reading.{entryOf}
+use Rattle.keylist.specs.Stepping.{entryStep, stepOf, arrived, placeAfter}
+use Rattle.keylist.proofs.Stepping.{Lies, lies, step-long, step-short, step-entry, step-end, place-barred, place-refused, entered-accepted, entered-refused}
 use Rattle.keylist.proofs.next_step.Statement.{statement}
 use Rattle.keylist.proofs.next_step.Tie as tie
 
@@ -29,103 +24,54 @@ returns-3 c =
     let a = n .before .before .before .before .args in
     c .finish .ensures ∙ sym (ap (arrived (a .list .now) (a .place)) (step-end (a .list .now) (a .place) (n .before .before .if1 .left) (n .before .if2 .left) (omega (arith, n .le32-at .ensures))))
 
+-- an entry is looked for
+wanted : (c : tie.After-extent) → (let a = c .before .before .before .before .before .before .before .args in stepOf (a .list .now) (a .place) ≡ entryStep (a .list .now) (a .place))
+wanted c =
+    let n = c .before .before .before in
+    step-entry _ _ (n .before .before .if1 .left) (n .before .if2 .left) (omega (arith, n .le32-at .ensures))
+
 returns-4 : tie.Need-returns-4
-unfolding arrived placeAfter
 returns-4 c =
-    let n = c .before .before .before .before in
-    let a = n .before .before .before .before .args in
-    let entry = step-entry (a .list .now) (a .place) (n .before .before .if1 .left) (n .before .if2 .left) (omega (arith, n .le32-at .ensures)) in
-    c .stay3 .ensures ∙ sym (ap (arrived (a .list .now) (a .place)) (entry ∙ entry-short (a .list .now) (a .place) (omega arith)))
+    let x = c .before .before .before .before in
+    let a = x .before .before .before .before .before .before .before .args in
+    c .stay3 .ensures
+    ∙ sym (ap (arrived (a .list .now) (a .place)) (wanted x) ∙ entered-refused (a .list .now) (a .place) _ (place-barred _ _ _ (sym (x .extent .ensures) ∙ c .before .before .refusal .given .1)))
+
+-- where its record lies
+found : (c : tie.After-read) → (let x = c .before .before .before .before .before in
+    let a = x .before .before .before .before .before .before .before .args in Lies (a .list .now) (a .place .at) (c .before .before .before .span .given .0 .0))
+found c = lies _ _ _ (sym (c .before .before .before .before .before .extent .ensures) ∙ c .before .before .before .span .given .1)
+
+add-t24 : tie.Need-add-t24
+add-t24 c = let l = found (c .before .before .before .before) in omega (arith, ap (λ x. x .len) (l .is), l .high)
 
 returns-5 : tie.Need-returns-5
-unfolding arrived placeAfter
 returns-5 c =
-    let n = c .before .before .before .before .before in
-    let a = n .before .before .before .before .args in
-    let entry = step-entry (a .list .now) (a .place) (n .before .before .if1 .left) (n .before .if2 .left) (omega (arith, n .le32-at .ensures)) in
-    c .stay4 .ensures ∙ sym (ap (arrived (a .list .now) (a .place)) (entry ∙ entry-short (a .list .now) (a .place) (omega arith)))
+    let r = c .before .before .before .before in
+    let x = r .before .before .before .before .before in
+    let a = x .before .before .before .before .before .before .before .args in
+    sym (ap (arrived (a .list .now) (a .place)) (wanted x) ∙ entered-accepted (a .list .now) (a .place) _ (found r) _ (ap entryOf (sym (r .before .part .ensures .0)) ∙ sym (r .read .ensures) ∙ c .before .before .entry .given .1))
 
 returns-6 : tie.Need-returns-6
-unfolding arrived placeAfter
 returns-6 c =
-    let m = c .before .before in
-    let n = c .before .before .before .before .before .before .before in
-    let a = n .before .before .before .before .args in
-    let entry = step-entry (a .list .now) (a .place) (n .before .before .if1 .left) (n .before .if2 .left) (omega (arith, n .le32-at .ensures)) in
-    let low : lengthAt (a .list .now) (a .place .at) < 20 = omega (arith, m .le32-at2 .ensures) in
-    c .stay5 .ensures
-    ∙ sym (ap (arrived (a .list .now) (a .place)) (entry ∙ entry-length (a .list .now) (a .place) (m .before .if5 .left) (rw (lt-ltb (lengthAt (a .list .now) (a .place .at)) 20 low))))
-
-returns-7 : tie.Need-returns-7
-unfolding arrived placeAfter
-returns-7 c =
-    let m = c .before .before .before in
-    let n = c .before .before .before .before .before .before .before .before in
-    let a = n .before .before .before .before .args in
-    let entry = step-entry (a .list .now) (a .place) (n .before .before .if1 .left) (n .before .if2 .left) (omega (arith, n .le32-at .ensures)) in
-    let low : 20 ≤ lengthAt (a .list .now) (a .place .at) = omega (arith, m .le32-at2 .ensures) in
-    let high : length (a .list .now) - a .place .at < lengthAt (a .list .now) (a .place .at) = omega (arith, m .le32-at2 .ensures) in
-    c .stay6 .ensures
-    ∙ sym (ap (arrived (a .list .now) (a .place)) (entry ∙ entry-length (a .list .now) (a .place) (m .before .if5 .left)
-    (rw (le-ltb (lengthAt (a .list .now) (a .place .at)) 20 low, lt-ltb (length (a .list .now) - a .place .at) (lengthAt (a .list .now) (a .place .at)) high))))
-
-returns-8 : tie.Need-returns-8
-returns-8 c =
-    let m = c .before .before .before .before .before .before .before in
-    let n = c .before .before .before .before .before .before .before .before .before .before .before .before in
-    let a = n .before .before .before .before .args in
-    let entry = step-entry (a .list .now) (a .place) (n .before .before .if1 .left) (n .before .if2 .left) (omega (arith, n .le32-at .ensures)) in
-    let len = m .le32-at2 .ensures in
-    sym
-    (ap (arrived (a .list .now) (a .place)) entry
-    ∙ rw len
-    (entered-accepted (a .list .now) (a .place) (m .before .if5 .left) (omega (arith, len)) (omega (arith, len)) _
-    (rw (← len) (sym (c .before .before .before .read .ensures) ∙ c .before .entry .given .1))))
-
-returns-9 : tie.Need-returns-9
-returns-9 c =
-    let m = c .before .before .before .before .before .before .before .before in
-    let n = c .before .before .before .before .before .before .before .before .before .before .before .before .before in
-    let a = n .before .before .before .before .args in
-    let entry = step-entry (a .list .now) (a .place) (n .before .before .if1 .left) (n .before .if2 .left) (omega (arith, n .le32-at .ensures)) in
-    let len = m .le32-at2 .ensures in
-    c .stay7 .ensures
-    ∙ sym
-    (ap (arrived (a .list .now) (a .place)) entry
-    ∙ entered-refused (a .list .now) (a .place) (m .before .if5 .left) (omega (arith, len)) (omega (arith, len)) _
-    (rw (← len) (sym (c .before .before .before .before .read .ensures) ∙ c .before .before .refusal .given .1)))
+    let r = c .before .before .before .before in
+    let x = r .before .before .before .before .before in
+    let a = x .before .before .before .before .before .before .before .args in
+    c .stay4 .ensures
+    ∙ sym (ap (arrived (a .list .now) (a .place)) (wanted x) ∙ entered-refused (a .list .now) (a .place) _ (place-refused _ _ _ (found r) _ (ap entryOf (sym (r .before .part .ensures .0)) ∙ sym (r .read .ensures) ∙ c .before .before .refusal2 .given .1)))
 
 pub next-step-spec : {M : Type 1} → statement M
-next-step-spec =
-    tie.close
-    (tie.spec
+next-step-spec = tie.close (tie.spec
     (λ c κs. search needs)
     returns
     (λ c κs. search needs)
     returns-2
-    (λ c κs. search needs)
-    (λ c κs. search needs)
+    (λ c κs. search needs) (λ c κs. search needs)
     returns-3
-    (λ c κs. search needs)
+    (λ c κs. search needs) (λ c. search needs) (λ c κs. search needs) (λ c. search needs) (λ c κs. search needs)
+    (λ c κs. search needs) (λ c. search needs)
+    add-t24
+    (λ c. search needs) (λ c. search needs) (λ c κs. search needs)
     returns-4
-    (λ c. search needs)
-    (λ c κs. search needs)
     returns-5
-    (λ c κs. search needs)
-    (λ c. search needs)
-    (λ c κs. search needs)
-    returns-6
-    (λ c κs. search needs)
-    returns-7
-    (λ c. search needs)
-    (λ c. search needs)
-    (λ c. search needs)
-    (λ c. search needs)
-    (λ c κs. search needs)
-    (λ c. search needs)
-    (λ c. search needs)
-    (λ c. search needs)
-    (λ c. search needs)
-    (λ c κs. search needs)
-    returns-8
-    returns-9)
+    returns-6)

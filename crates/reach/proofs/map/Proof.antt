@@ -1,12 +1,5 @@
 -- `map`: the rows filled so far are the first rows of the map.
-use Prim.Native.Nat.{_-_, _≤_}
-use native.Mathlib.Omega.{arith}
-use native.Mathlib.Numerals.{add-one}
-use mathlib.Core.List.{[], _∷_, _++_}
-use mathlib.Core.Path.{_≡_, refl, sym, ap, ap₂, _∙_}
-use lib.ListN.{length, take, length-set}
-use lib.Seq.{take-suc-set, take-all}
-use borrow.Author.Needs.{needs}
+use Rattle.lemmas.proofs.Basics.{_-_, _≤_, arith, add-one, [], _∷_, _++_, _≡_, refl, sym, ap, ap₂, _∙_, length, take, length-set, take-all, take-suc-set, needs}
 use Rattle.reach.specs.Bits.{table}
 use Rattle.reach.specs.Maps.{rowOf, mapOf}
 use Rattle.reach.proofs.map.Statement.{statement}
@@ -40,17 +33,10 @@ returns c =
     sym (take-all (l .i) (l .rows) (omega arith)) ∙ l .inv .2 ∙ ap (λ n. table n (rowOf (a .keys) (a .at))) all
 
 pub map-spec : {M : Type 1} → statement M
-map-spec =
-    tie.close
-    (tie.spec
+map-spec = tie.close (tie.spec
     Inv-loop
     μ-loop
     loop-holds
-    (λ c. search needs)
-    (λ c κs. search needs)
-    (λ c. search needs)
-    (λ c. search needs)
-    (λ c. search needs)
-    (λ c. search needs)
+    (λ c. search needs) (λ c κs. search needs) (λ c. search needs) (λ c. search needs) (λ c. search needs) (λ c. search needs)
     loop-again
     returns)

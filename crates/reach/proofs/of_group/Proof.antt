@@ -1,6 +1,5 @@
 -- `of_group`: the tests are the definition's.
-use borrow.Author.Needs.{needs}
-use borrow.Author.Tests.{eq-eqb, ne-eqb}
+use Rattle.lemmas.proofs.Basics.{needs, eq-eqb, ne-eqb}
 use Rattle.reach.specs.Reached.{ofGroup}
 use Rattle.reach.proofs.of_group.Statement.{statement}
 use Rattle.reach.proofs.of_group.Tie as tie

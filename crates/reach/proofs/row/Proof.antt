@@ -1,8 +1,5 @@
 -- `row`: the row whole, or up to the L2 key's index, or empty.
-use mathlib.Core.Bool.{true, false, and-false}
-use mathlib.Core.Logic.{⊎-elim}
-use mathlib.Core.Path.{refl, sym, _∙_}
-use borrow.Author.Needs.{needs}
+use Rattle.lemmas.proofs.Basics.{true, false, and-false, ⊎-elim, refl, sym, _∙_, needs}
 use Rattle.reach.specs.Bits.{rowWhere, bit}
 use Rattle.reach.proofs.MapLaws.{row-by}
 use Rattle.reach.proofs.row.Statement.{statement}
@@ -34,13 +31,9 @@ returns-3 c =
     (⊎-elim (λ w. rw (← w .1 .ensures, w .2 .left, and-false)) (λ w. rw (w .left)) (c .if3 .came)))
 
 pub row-spec : {M : Type 1} → statement M
-row-spec =
-    tie.close
-    (tie.spec
-    (λ c κs. search needs)
-    (λ c κs. search needs)
+row-spec = tie.close (tie.spec
+    (λ c κs. search needs) (λ c κs. search needs)
     returns
-    (λ c κs. search needs)
-    (λ c κs. search needs)
+    (λ c κs. search needs) (λ c κs. search needs)
     returns-2
     returns-3)

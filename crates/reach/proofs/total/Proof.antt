@@ -1,14 +1,8 @@
 -- `total`: the sum so far is the total of the first rows.
-use Prim.Native.Nat.{_-_, _*_, _≤_, _<_}
-use native.Mathlib.Omega.{arith}
-use native.Mathlib.Numerals.{add-one}
-use mathlib.Core.Path.{_≡_, ap, _∙_}
+use Rattle.lemmas.proofs.Basics.{_-_, _*_, _≤_, _<_, arith, add-one, _≡_, ap, _∙_, length, getD, take, take-all, take-suc, needs}
 use mir.Syntax.{w32}
 use mir.Val.{Fits}
 use lib.Count.{ones-le}
-use lib.ListN.{length, getD, take}
-use lib.Seq.{take-suc, take-all}
-use borrow.Author.Needs.{needs}
 use Rattle.reach.specs.Maps.{totalOf}
 use Rattle.reach.proofs.BitLaws.{ones-count}
 use Rattle.reach.proofs.MapLaws.{total-next}
@@ -49,16 +43,12 @@ returns c =
     l .inv .1 ∙ ap totalOf (take-all (l .i) _ (omega arith))
 
 pub total-spec : {M : Type 1} → statement M
-total-spec =
-    tie.close
-    (tie.spec
+total-spec = tie.close (tie.spec
     Inv-loop
     μ-loop
     loop-holds
-    (λ c. search needs)
-    (λ c. search needs)
+    (λ c. search needs) (λ c. search needs)
     add-sum
-    (λ c. search needs)
-    (λ c. search needs)
+    (λ c. search needs) (λ c. search needs)
     loop-again
     returns)

@@ -1,7 +1,6 @@
 -- `is_outside`: the tests are the definition's.
-use mathlib.Core.Path.{ap}
+use Rattle.lemmas.proofs.Basics.{ap, needs}
 use mir.Facts.{toZ-ofZ}
-use borrow.Author.Needs.{needs}
 use Rattle.request.specs.Indices.{below, outside}
 use Rattle.request.proofs.is_outside.Statement.{statement}
 use Rattle.request.proofs.is_outside.Tie as tie

@@ -1,11 +1,8 @@
 -- `later_then`: the tests are the definition's, on the numbers that the bits stand for.
-use Prim.Native.Nat.{_≤_, _<_, _^_}
-use native.Mathlib.Omega.{arith}
-use mathlib.Core.Path.{sym, ap₂, _∙_}
+use Rattle.lemmas.proofs.Basics.{_^_, _≤_, _<_, arith, sym, ap₂, _∙_, needs}
 use lib.Signed.{ltZ}
 use mir.Syntax.{w32}
 use mir.Facts.{toZ-ofZ, toZ-pos}
-use borrow.Author.Needs.{needs}
 use Rattle.request.specs.Indices.{laterThenZ}
 use Rattle.request.proofs.Signs.{past-signed}
 use Rattle.request.proofs.later_then.Statement.{statement}

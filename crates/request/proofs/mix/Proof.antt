@@ -1,6 +1,6 @@
 -- `mix`: any, and not all.
 
-use borrow.Author.Needs.{needs}
+use Rattle.lemmas.proofs.Basics.{needs}
 use Rattle.request.proofs.mix.Statement.{statement}
 use Rattle.request.proofs.mix.Tie as tie
 

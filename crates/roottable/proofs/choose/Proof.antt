@@ -1,9 +1,5 @@
 -- `choose`: the best of the rows passed.
-use Prim.Native.Nat.{_-_, _≤_}
-use native.Mathlib.Numerals.{add-one}
-use native.Mathlib.Omega.{arith}
-use mathlib.Core.Path.{_≡_, sym, ap, _∙_}
-use borrow.Author.Needs.{needs}
+use Rattle.lemmas.proofs.Basics.{_-_, _≤_, arith, add-one, _≡_, sym, ap, _∙_, needs}
 use Rattle.roottable.specs.Rows.{rowCount}
 use Rattle.roottable.proofs.Choice.{BestSays, place, step-says, suits, ranks, best-row}
 use Rattle.roottable.proofs.choose.Statement.{statement}
@@ -39,17 +35,12 @@ returns-2 c =
     sym (best-row (a .wanted) (a .table .now) (l .best) (rw all at (l .inv .1)) ∙ ap place (c .before .best .given .1))
 
 pub choose-spec : {M : Type 1} → statement M
-choose-spec =
-    tie.close
-    (tie.spec
+choose-spec = tie.close (tie.spec
     Inv-loop
     μ-loop
     loop-holds
-    (λ c κs. search needs)
-    (λ c. search needs)
-    (λ c. search needs)
+    (λ c κs. search needs) (λ c. search needs) (λ c. search needs)
     loop-again
-    (λ c. search needs)
-    (λ c. search needs)
+    (λ c. search needs) (λ c. search needs)
     returns
     returns-2)

@@ -1,5 +1,5 @@
 -- `is_table_wrong`: the tests are the definition's.
-use borrow.Author.Tests.{eq-eqb, ne-eqb}
+use Rattle.lemmas.proofs.Basics.{eq-eqb, ne-eqb}
 use Rattle.roottable.specs.Rows.{tableWrong}
 use Rattle.roottable.proofs.is_table_wrong.Statement.{statement}
 use Rattle.roottable.proofs.is_table_wrong.Tie as tie

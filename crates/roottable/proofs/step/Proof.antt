@@ -1,6 +1,6 @@
 -- `step`: the row, where it counts.
-use Rattle.roottable.specs.Selection.{stepOf}
-use borrow.Author.Needs.{needs}
+use Rattle.roottable.specs.Passing.{stepOf}
+use Rattle.lemmas.proofs.Basics.{needs}
 use Rattle.roottable.proofs.step.Statement.{statement}
 use Rattle.roottable.proofs.step.Tie as tie
 

@@ -1,7 +1,6 @@
 -- `choose`: the cached one is asked first, and the fetched one only where it does not serve.
-use mathlib.Core.Path.{sym, _∙_}
+use Rattle.lemmas.proofs.Basics.{sym, _∙_, needs}
 use Rattle.serving.specs.Choice.{prefer}
-use borrow.Author.Needs.{needs}
 use Rattle.serving.proofs.choose.Statement.{statement}
 use Rattle.serving.proofs.choose.Tie as tie
 
@@ -22,14 +21,8 @@ returns-3 c =
     rw (sym (s .before .before .before .served-by .ensures) ∙ s .before .enum-told .given .1, sym (s .served-by2 .ensures) ∙ c .enum-told2 .given .1)
 
 pub choose-spec : {M : Type 1} → statement M
-choose-spec =
-    tie.close
-    (tie.spec
-    (λ c κs. search needs)
-    (λ c. search needs)
-    (λ c. search needs)
-    (λ c κs. search needs)
-    (λ c. search needs)
+choose-spec = tie.close (tie.spec
+    (λ c κs. search needs) (λ c. search needs) (λ c. search needs) (λ c κs. search needs) (λ c. search needs)
     (λ c. search needs)
     returns
     returns-2

@@ -1,8 +1,7 @@
 -- `key_for`: the L2 key, else the L1 key, else none.
-use mathlib.Core.Path.{sym, ap, _∙_}
-use Rattle.reach.specs.Forms.{keysOf}
+use Rattle.lemmas.proofs.Basics.{sym, ap, _∙_, needs}
+use Rattle.keys.specs.Forms.{keysOf}
 use Rattle.serving.specs.Choice.{keyFor}
-use borrow.Author.Needs.{needs}
 use Rattle.serving.proofs.key_for.Statement.{statement}
 use Rattle.serving.proofs.key_for.Tie as tie
 
@@ -28,12 +27,8 @@ returns-3 c =
     rw (sym keys, sym (c .before .before .before .before .before .l2-reaches .ensures), c .before .before .before .if1 .left, sym (c .before .before .l1-reaches .ensures), c .if2 .left)
 
 pub key-for-spec : {M : Type 1} → statement M
-key-for-spec =
-    tie.close
-    (tie.spec
-    (λ c κs. search needs)
-    (λ c κs. search needs)
-    (λ c κs. search needs)
+key-for-spec = tie.close (tie.spec
+    (λ c κs. search needs) (λ c κs. search needs) (λ c κs. search needs)
     returns
     (λ c κs. search needs)
     returns-2

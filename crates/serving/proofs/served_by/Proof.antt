@@ -1,7 +1,6 @@
 -- `served_by`: the reader's answer is told, then the root is compared.
-use mathlib.Core.Path.{sym, _∙_}
+use Rattle.lemmas.proofs.Basics.{sym, _∙_, needs}
 use Rattle.serving.specs.Choice.{servedBy}
-use borrow.Author.Needs.{needs}
 use Rattle.serving.proofs.served_by.Statement.{statement}
 use Rattle.serving.proofs.served_by.Tie as tie
 
@@ -22,13 +21,8 @@ unfolding servedBy
 returns-3 c = rw (sym (c .before .before .read .ensures) ∙ c .enum-told .given .1)
 
 pub served-by-spec : {M : Type 1} → statement M
-served-by-spec =
-    tie.close
-    (tie.spec
-    (λ c κs. search needs)
-    (λ c. search needs)
-    (λ c κs. search needs)
-    (λ c κs. search needs)
+served-by-spec = tie.close (tie.spec
+    (λ c κs. search needs) (λ c. search needs) (λ c κs. search needs) (λ c κs. search needs)
     returns
     (λ c. search needs)
     returns-2

@@ -1,8 +1,6 @@
 -- `serving_key`: the choice is told, and its part is handed out of the envelope that it names.
-use native.Mathlib.Omega.{arith}
-use mathlib.Core.Path.{refl, sym, _∙_}
+use Rattle.lemmas.proofs.Basics.{arith, refl, sym, _∙_, needs}
 use Rattle.serving.specs.Choice.{chosenPart, chosenBlock, chosenStart}
-use borrow.Author.Needs.{needs}
 use Rattle.serving.proofs.serving_key.Statement.{statement}
 use Rattle.serving.proofs.serving_key.Tie as tie
 
@@ -19,18 +17,9 @@ unfolding chosenPart chosenBlock chosenStart
 returns-3 c = rw (sym (c .before .before .before .choose .ensures) ∙ c .before .enum-told .given .1) (refl, (refl, omega arith))
 
 pub serving-key-spec : {M : Type 1} → statement M
-serving-key-spec =
-    tie.close
-    (tie.spec
-    (λ c κs. search needs)
-    (λ c. search needs)
-    (λ c κs. search needs)
-    (λ c. search needs)
-    (λ c κs. search needs)
-    (λ c. search needs)
-    (λ c. search needs)
-    (λ c. search needs)
-    (λ c. search needs)
+serving-key-spec = tie.close (tie.spec
+    (λ c κs. search needs) (λ c. search needs) (λ c κs. search needs) (λ c. search needs) (λ c κs. search needs)
+    (λ c. search needs) (λ c. search needs) (λ c. search needs) (λ c. search needs)
     returns
     returns-2
     returns-3)

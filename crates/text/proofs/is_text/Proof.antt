@@ -1,10 +1,5 @@
 -- `is_text`: the text from the next unit on gives the whole answer.
-use Prim.Native.Nat.{_+_, _-_}
-use native.Mathlib.Omega.{arith}
-use mathlib.Core.Path.{_≡_, refl, sym, ap, _∙_}
-use lib.Dec.{eqb}
-use lib.ListN.{length, drop}
-use borrow.Author.Needs.{needs}
+use Rattle.lemmas.proofs.Basics.{_+_, _-_, arith, _≡_, refl, sym, ap, _∙_, eqb, length, drop, needs}
 use Rattle.text.specs.Text.{isText}
 use Rattle.text.proofs.Texts.{text-short, text-last, text-next}
 use Rattle.text.proofs.is_text.Statement.{statement}
@@ -34,9 +29,7 @@ returns-2 c =
     sym (text-short (l .before .before .args .s .now) (l .loop .at) (omega arith)) ∙ l .loop .inv .1
 
 pub is-text-spec : {M : Type 1} → statement M
-is-text-spec =
-    tie.close
-    (tie.spec
+is-text-spec = tie.close (tie.spec
     Inv-loop
     μ-loop
     (λ c. (omega arith, refl))

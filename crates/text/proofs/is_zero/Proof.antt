@@ -1,5 +1,5 @@
 -- `is_zero`: both bytes are.
-use borrow.Author.Tests.{eq-eqb, ne-eqb}
+use Rattle.lemmas.proofs.Basics.{eq-eqb, ne-eqb}
 use Rattle.text.specs.Text.{zeroUnit}
 use Rattle.text.proofs.is_zero.Statement.{statement}
 use Rattle.text.proofs.is_zero.Tie as tie

@@ -1,11 +1,9 @@
 -- `be64_at`: the part, where it has eight bytes, is two numbers of four; else it is empty and the number is 0.
-use Prim.Native.Nat.{_+_, _*_}
-use mathlib.Core.Path.{sym, ap₂, _∙_}
+use Rattle.lemmas.proofs.Basics.{_+_, _*_, sym, ap₂, _∙_, needs}
 use Rattle.wire.specs.Numbers.{leOf, beOf}
 use Rattle.wire.specs.Parts.{beAt}
 use Rattle.wire.proofs.Numbers.{le-append, be-read}
 use Rattle.wire.proofs.Parts.{part-none}
-use borrow.Author.Needs.{needs}
 use Rattle.wire.proofs.be64_at.Statement.{statement}
 use Rattle.wire.proofs.be64_at.Tie as tie
 
@@ -22,20 +20,9 @@ unfolding beAt beOf leOf
 returns-2 c = rw (part-none _ _ _ 8 (c .before .part .ensures .0) (c .if1 .left))
 
 pub be64-at-spec : {M : Type 1} → statement M
-be64-at-spec =
-    tie.close
-    (tie.spec
-    (λ c κs. search needs)
-    (λ c. search needs)
-    (λ c. search needs)
-    (λ c. search needs)
-    (λ c. search needs)
-    (λ c κs. search needs)
-    (λ c. search needs)
-    (λ c. search needs)
-    (λ c. search needs)
-    (λ c. search needs)
-    (λ c κs. search needs)
-    (λ c κs. search needs)
+be64-at-spec = tie.close (tie.spec
+    (λ c κs. search needs) (λ c. search needs) (λ c. search needs) (λ c. search needs) (λ c. search needs)
+    (λ c κs. search needs) (λ c. search needs) (λ c. search needs) (λ c. search needs) (λ c. search needs)
+    (λ c κs. search needs) (λ c κs. search needs)
     returns
     returns-2)

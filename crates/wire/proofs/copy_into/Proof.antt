@@ -1,12 +1,6 @@
 -- `copy_into`: the whole of the source, then what stood behind; unchanged where it does not fit.
-use Prim.Native.Nat.{_≤_}
-use native.Mathlib.Omega.{arith}
-use mathlib.Core.List.{_++_}
-use mathlib.Core.Path.{sym, ap, _∙_}
-use lib.ListN.{length, drop}
-use lib.Seq.{take-length}
+use Rattle.lemmas.proofs.Basics.{_≤_, arith, _++_, sym, ap, _∙_, length, drop, take-length, needs}
 use Rattle.wire.proofs.Writing.{onto-in, onto-out}
-use borrow.Author.Needs.{needs}
 use Rattle.wire.proofs.copy_into.Statement.{statement}
 use Rattle.wire.proofs.copy_into.Tie as tie
 

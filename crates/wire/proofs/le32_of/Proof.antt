@@ -1,6 +1,5 @@
 -- `le32_of`: the sums and products stay below 2^32 as each byte is below 256; the result is the definition, written out.
-use native.Mathlib.Omega.{arith}
-use borrow.Author.Needs.{needs}
+use Rattle.lemmas.proofs.Basics.{arith, needs}
 use Rattle.wire.specs.Numbers.{leOf}
 use Rattle.wire.proofs.le32_of.Statement.{statement}
 use Rattle.wire.proofs.le32_of.Tie as tie

@@ -1,11 +1,9 @@
 -- `le64_at`: the part, where it has eight bytes, is two numbers of four; else it is empty and the number is 0.
-use Prim.Native.Nat.{_+_, _*_}
-use mathlib.Core.Path.{sym, ap₂, _∙_}
+use Rattle.lemmas.proofs.Basics.{_+_, _*_, sym, ap₂, _∙_, needs}
 use Rattle.wire.specs.Numbers.{leOf}
 use Rattle.wire.specs.Parts.{leAt}
 use Rattle.wire.proofs.Numbers.{le-append, le-read}
 use Rattle.wire.proofs.Parts.{part-none}
-use borrow.Author.Needs.{needs}
 use Rattle.wire.proofs.le64_at.Statement.{statement}
 use Rattle.wire.proofs.le64_at.Tie as tie
 
@@ -21,20 +19,9 @@ unfolding leAt leOf
 returns-2 c = rw (part-none _ _ _ 8 (c .before .part .ensures .0) (c .if1 .left))
 
 pub le64-at-spec : {M : Type 1} → statement M
-le64-at-spec =
-    tie.close
-    (tie.spec
-    (λ c κs. search needs)
-    (λ c. search needs)
-    (λ c. search needs)
-    (λ c. search needs)
-    (λ c. search needs)
-    (λ c κs. search needs)
-    (λ c. search needs)
-    (λ c. search needs)
-    (λ c. search needs)
-    (λ c. search needs)
-    (λ c κs. search needs)
-    (λ c κs. search needs)
+le64-at-spec = tie.close (tie.spec
+    (λ c κs. search needs) (λ c. search needs) (λ c. search needs) (λ c. search needs) (λ c. search needs)
+    (λ c κs. search needs) (λ c. search needs) (λ c. search needs) (λ c. search needs) (λ c. search needs)
+    (λ c κs. search needs) (λ c κs. search needs)
     returns
     returns-2)

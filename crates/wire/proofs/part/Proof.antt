@@ -1,11 +1,5 @@
 -- `part`: the tests say whether the span lies inside; the part that is made is the bytes from its start to its end.
-use Prim.Native.Nat.{_+_, _<_, _≤_}
-use native.Mathlib.Nat.{add-sub-cancel-left}
-use native.Mathlib.Omega.{arith}
-use mathlib.Core.Logic.{⊎-elim}
-use mathlib.Core.Path.{refl}
-use lib.ListN.{length}
-use borrow.Author.Needs.{needs}
+use Rattle.lemmas.proofs.Basics.{_+_, _≤_, _<_, arith, add-sub-cancel-left, ⊎-elim, refl, length, needs}
 use Rattle.wire.proofs.Parts.{part-in, part-out, start-in, start-out}
 use Rattle.wire.proofs.part.Statement.{statement}
 use Rattle.wire.proofs.part.Tie as tie
@@ -23,16 +17,8 @@ returns-2 c =
     (rw part-out, (refl, rw start-out (omega arith)))
 
 pub part-spec : {M : Type 1} → statement M
-part-spec =
-    tie.close
-    (tie.spec
-    (λ c. search needs)
-    (λ c. search needs)
-    (λ c. search needs)
-    (λ c. search needs)
-    (λ c. search needs)
+part-spec = tie.close (tie.spec
+    (λ c. search needs) (λ c. search needs) (λ c. search needs) (λ c. search needs) (λ c. search needs)
     returns
-    (λ c. search needs)
-    (λ c. search needs)
-    (λ c. search needs)
+    (λ c. search needs) (λ c. search needs) (λ c. search needs)
     returns-2)

@@ -1,11 +1,5 @@
 -- `put_le32s`: the invariant is that the numbers passed stand at the start; a turn lends the next four bytes.
-use Prim.Native.Nat.{_+_, _*_, _-_, _≤_}
-use native.Mathlib.Numerals.{add-one}
-use native.Mathlib.Omega.{arith}
-use mathlib.Core.Path.{_≡_, refl, sym, ap, _∙_}
-use lib.ListN.{length, getD, take}
-use lib.Seq.{length-take-le, take-length}
-use borrow.Author.Needs.{needs}
+use Rattle.lemmas.proofs.Basics.{_+_, _-_, _*_, _≤_, arith, add-one, _≡_, refl, sym, ap, _∙_, length, getD, take, length-take-le, take-length, needs}
 use Rattle.wire.specs.Numbers.{leBytes}
 use Rattle.wire.specs.Parts.{onto, le32Bytes, joined}
 use Rattle.wire.proofs.Numbers.{length-leBytes}
@@ -45,9 +39,7 @@ returns-2 : tie.Need-returns-2 Inv-loop μ-loop
 returns-2 c = sym (onto-out _ _ (rw (length-le32Bytes _) (omega arith)))
 
 pub put-le32s-spec : {M : Type 1} → statement M
-put-le32s-spec =
-    tie.close
-    (tie.spec
+put-le32s-spec = tie.close (tie.spec
     Inv-loop
     μ-loop
     loop-holds
@@ -56,9 +48,7 @@ put-le32s-spec =
     (λ c. omega arith)
     (λ c. omega arith)
     (λ c. omega arith)
-    (λ c. search needs)
-    (λ c. search needs)
-    (λ c κs. search needs)
+    (λ c. search needs) (λ c. search needs) (λ c κs. search needs)
     (λ c. omega arith)
     (λ c. omega arith)
     loop-again

@@ -1,9 +1,7 @@
 -- `Head::judge`: one test after the other, in document 01's order; the first that holds is the answer.
-use mathlib.Core.Path.{sym, _∙_}
-use borrow.Author.Tests.{eq-eqb, ne-eqb}
+use Rattle.lemmas.proofs.Basics.{sym, _∙_, needs, eq-eqb, ne-eqb}
 use Rattle.refusal.specs.Chain.{firstOf}
 use Rattle.efskey.specs.Reading.{headChecks}
-use borrow.Author.Needs.{needs}
 use Rattle.efskey.proofs.Head.judge.Statement.{statement}
 use Rattle.efskey.proofs.Head.judge.Tie as tie
 
@@ -48,28 +46,15 @@ returns-6 c = let i5 = c .before .before .before in
 
 returns-7 : tie.Need-returns-7
 unfolding headChecks firstOf
-returns-7 c = let i6 = c .before .before in
-    let i5 = i6 .before .before .before in
+returns-7 c = let i5 = c .before .before .before in
     let i4 = i5 .before .before .before in
     let i3 = i4 .before .before in
     let i2 = i3 .before .before in
     let i1 = i2 .before .before in
-    rw ((sym (i1 .before .lengths-disagree .ensures) ∙ i1 .if1 .left), eq-eqb _ _ (i2 .if2 .left), ne-eqb _ _ (i3 .if3 .left), (sym (i4 .before .certificate-misplaced .ensures) ∙ i4 .if4 .left), (i5 .if5 .left), (i6 .if6 .left), (c .if7 .taken))
-
-returns-8 : tie.Need-returns-8
-unfolding headChecks firstOf
-returns-8 c = let i6 = c .before .before in
-    let i5 = i6 .before .before .before in
-    let i4 = i5 .before .before .before in
-    let i3 = i4 .before .before in
-    let i2 = i3 .before .before in
-    let i1 = i2 .before .before in
-    rw ((sym (i1 .before .lengths-disagree .ensures) ∙ i1 .if1 .left), eq-eqb _ _ (i2 .if2 .left), ne-eqb _ _ (i3 .if3 .left), (sym (i4 .before .certificate-misplaced .ensures) ∙ i4 .if4 .left), (i5 .if5 .left), (i6 .if6 .left), (c .if7 .left))
+    rw ((sym (i1 .before .lengths-disagree .ensures) ∙ i1 .if1 .left), eq-eqb _ _ (i2 .if2 .left), ne-eqb _ _ (i3 .if3 .left), (sym (i4 .before .certificate-misplaced .ensures) ∙ i4 .if4 .left), (i5 .if5 .left), (c .if6 .left))
 
 pub judge-spec : {M : Type 1} → statement M
-judge-spec =
-    tie.close
-    (tie.spec
+judge-spec = tie.close (tie.spec
     (λ c κs. search needs)
     returns
     returns-2
@@ -78,5 +63,4 @@ judge-spec =
     returns-4
     returns-5
     returns-6
-    returns-7
-    returns-8)
+    returns-7)

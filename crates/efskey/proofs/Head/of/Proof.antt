@@ -1,5 +1,5 @@
 -- `Head::of`: each number is read at its place.
-use borrow.Author.Needs.{needs}
+use Rattle.lemmas.proofs.Basics.{needs}
 use Rattle.efskey.proofs.Head.of.Statement.{statement}
 use Rattle.efskey.proofs.Head.of.Tie as tie
 

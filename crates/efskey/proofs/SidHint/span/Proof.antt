@@ -1,5 +1,5 @@
 -- `SidHint::span`: an absent SID is told by its case.
-use borrow.Author.Needs.{needs}
+use Rattle.lemmas.proofs.Basics.{needs}
 use Rattle.efskey.proofs.SidHint.span.Statement.{statement}
 use Rattle.efskey.proofs.SidHint.span.Tie as tie
 

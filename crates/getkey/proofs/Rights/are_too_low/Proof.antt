@@ -1,6 +1,6 @@
 -- `Rights::are_too_low`: by cases.
 use Rattle.getkey.specs.Deciding.{rightsTooLow}
-use borrow.Author.Needs.{needs}
+use Rattle.lemmas.proofs.Basics.{needs}
 use Rattle.getkey.proofs.Rights.are_too_low.Statement.{statement}
 use Rattle.getkey.proofs.Rights.are_too_low.Tie as tie
 

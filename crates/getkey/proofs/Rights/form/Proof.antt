@@ -1,6 +1,6 @@
 -- `Rights::form`: by cases.
 use Rattle.getkey.specs.Deciding.{formFor}
-use borrow.Author.Needs.{needs}
+use Rattle.lemmas.proofs.Basics.{needs}
 use Rattle.getkey.proofs.Rights.form.Statement.{statement}
 use Rattle.getkey.proofs.Rights.form.Tie as tie
 

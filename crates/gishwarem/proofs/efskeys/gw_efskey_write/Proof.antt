@@ -1,6 +1,6 @@
 -- `gw_efskey_write`: what the writer ensures.
 use Rattle.gishwarem.proofs.Writers.{laid}
-use borrow.Author.Needs.{needs}
+use Rattle.lemmas.proofs.Basics.{needs}
 use Rattle.gishwarem.proofs.efskeys.gw_efskey_write.Statement.{statement}
 use Rattle.gishwarem.proofs.efskeys.gw_efskey_write.Tie as tie
 
@@ -8,10 +8,4 @@ returns : tie.Need-returns
 returns c = laid _ _ (c .to-written .ensures) (c .before .before .before .write .ensures .0) (c .before .before .before .write .ensures .1)
 
 pub gw-efskey-write-spec : {M : Type 1} → statement M
-gw-efskey-write-spec =
-    tie.close
-    (tie.spec
-    (λ c κs. search needs)
-    (λ c κs. search needs)
-    (λ c. search needs)
-    returns)
+gw-efskey-write-spec = tie.close (tie.spec (λ c κs. search needs) (λ c κs. search needs) (λ c. search needs) returns)

@@ -1,6 +1,5 @@
 -- `Gkid::at`: the three divisions, none of which leaves 32 bits.
-use mathlib.Core.Path.{refl}
-use borrow.Author.Needs.{needs}
+use Rattle.lemmas.proofs.Basics.{refl, needs}
 use Rattle.gkid.specs.Conversion.{gkidAt}
 use Rattle.gkid.proofs.Gkid.at.Statement.{statement}
 use Rattle.gkid.proofs.Gkid.at.Tie as tie

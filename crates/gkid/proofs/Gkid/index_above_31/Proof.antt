@@ -1,9 +1,9 @@
--- `Gkid::index_above_31`: the second index is looked at where the first is at most 31.
-use borrow.Author.Tests.{lt-ltb, le-ltb}
+-- `Gkid::index_above_31`: the definition's test.
+use Rattle.lemmas.proofs.Basics.{refl}
 use Rattle.gkid.specs.Identifier.{indexAbove31}
 use Rattle.gkid.proofs.Gkid.index_above_31.Statement.{statement}
 use Rattle.gkid.proofs.Gkid.index_above_31.Tie as tie
 
 pub index-above-31-spec : {M : Type 1} → statement M
 unfolding indexAbove31
-index-above-31-spec = tie.close (tie.spec (λ c. search (lt-ltb, le-ltb)) (λ c. search (lt-ltb, le-ltb)))
+index-above-31-spec = tie.close (tie.spec (λ c. refl))

@@ -1,5 +1,5 @@
 -- `Gkid::is_later_than`: the first indices that differ decide.
-use borrow.Author.Tests.{eq-eqb, ne-eqb}
+use Rattle.lemmas.proofs.Basics.{eq-eqb, ne-eqb}
 use Rattle.gkid.specs.Identifier.{later, laterThen}
 use Rattle.gkid.proofs.Order.{then-last}
 use Rattle.gkid.proofs.Gkid.is_later_than.Statement.{statement}

@@ -1,15 +1,12 @@
 -- `Gkid::older`: 5; else one L2 index less, or the last L2 index of the L1 index before, or none.
-use borrow.Author.Needs.{needs}
-use borrow.Author.Tests.{lt-ltb, le-ltb}
+use Rattle.lemmas.proofs.Basics.{needs, lt-ltb, le-ltb}
 use Rattle.gkid.specs.Older.{olderOf}
 use Rattle.gkid.proofs.Gkid.older.Statement.{statement}
 use Rattle.gkid.proofs.Gkid.older.Tie as tie
 
 pub older-spec : {M : Type 1} → statement M
 unfolding olderOf
-older-spec =
-    tie.close
-    (tie.spec
+older-spec = tie.close (tie.spec
     (λ c κs. search needs)
     (λ c. rw (← c .before .index-above-31 .ensures, c .if1 .taken))
     (λ c. search needs)

@@ -1,7 +1,5 @@
 -- `Gkid::start`: 5; else 21, told by the highest identifier; else the start time, which 64 bits hold.
-use mathlib.Core.Path.{sym, _∙_}
-use borrow.Author.Needs.{needs}
-use borrow.Author.Tests.{leb-false}
+use Rattle.lemmas.proofs.Basics.{sym, _∙_, needs, leb-false}
 use Rattle.gkid.specs.Conversion.{gkidAt, highest}
 use Rattle.gkid.proofs.Order.{in-group}
 use Rattle.gkid.proofs.Times.{past-time, start-by-highest}
@@ -16,9 +14,7 @@ ticks-requires c κs =
 
 pub start-spec : {M : Type 1} → statement M
 unfolding highest gkidAt
-start-spec =
-    tie.close
-    (tie.spec
+start-spec = tie.close (tie.spec
     (λ c κs. search needs)
     (λ c. rw (start-by-highest, ← c .before .index-above-31 .ensures, c .if1 .taken))
     (λ c κs. search needs)

@@ -1,5 +1,5 @@
 -- `Entry::algorithm`: the tests in the definition's order.
-use borrow.Author.Tests.{eq-eqb, ne-eqb}
+use Rattle.lemmas.proofs.Basics.{eq-eqb, ne-eqb}
 use Rattle.keyentry.specs.Reading.{algorithmOf}
 use Rattle.keyentry.proofs.Entry.algorithm.Statement.{statement}
 use Rattle.keyentry.proofs.Entry.algorithm.Tie as tie

@@ -1,5 +1,5 @@
 -- `Outcome::number`: 0 where accepted, else the number of the refusal that it holds.
-use borrow.Author.Needs.{needs}
+use Rattle.lemmas.proofs.Basics.{needs}
 use Rattle.refusal.specs.Number.{outcomeNumber}
 use Rattle.refusal.proofs.Outcome.number.Statement.{statement}
 use Rattle.refusal.proofs.Outcome.number.Tie as tie

@@ -1,10 +1,8 @@
 -- `Request::is_later_than`: from the last index to the first.
-use mathlib.Core.Bool.{false}
-use mathlib.Core.Path.{_≡_, ap, ap₂, _∙_}
+use Rattle.lemmas.proofs.Basics.{false, _≡_, ap, ap₂, _∙_, needs}
 use mir.Syntax.{w32}
 use mir.Val.{toZ, ofZ}
 use Rattle.request.specs.Indices.{laterThenZ, laterThanNow}
-use borrow.Author.Needs.{needs}
 use Rattle.request.proofs.Request.is_later_than.Statement.{statement}
 use Rattle.request.proofs.Request.is_later_than.Tie as tie
 
@@ -21,5 +19,4 @@ returns c =
     c .later-then3 .ensures ∙ ap₂ (λ i next. laterThenZ i (at .l0 .0) next) l0 i1
 
 pub is-later-than-spec : {M : Type 1} → statement M
-is-later-than-spec =
-    tie.close (tie.spec (λ c κs. search needs) (λ c κs. search needs) (λ c κs. search needs) returns)
+is-later-than-spec = tie.close (tie.spec (λ c κs. search needs) (λ c κs. search needs) (λ c κs. search needs) returns)

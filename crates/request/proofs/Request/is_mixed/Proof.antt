@@ -1,9 +1,8 @@
 -- `Request::is_mixed`: of the three tests some hold, and not all.
-use mathlib.Core.Path.{_≡_, ap, _∙_}
+use Rattle.lemmas.proofs.Basics.{_≡_, ap, _∙_, needs}
 use mir.Syntax.{w32}
 use mir.Val.{toZ, ofZ}
 use Rattle.request.specs.Indices.{unset, mixed}
-use borrow.Author.Needs.{needs}
 use Rattle.request.proofs.Request.is_mixed.Statement.{statement}
 use Rattle.request.proofs.Request.is_mixed.Tie as tie
 

@@ -1,10 +1,9 @@
 -- `Request::names_one`: all of the three tests.
-use mathlib.Core.Path.{_≡_, ap, _∙_}
+use Rattle.lemmas.proofs.Basics.{_≡_, ap, _∙_, needs}
 use lib.Signed.{nonNeg}
 use mir.Syntax.{w32}
 use mir.Val.{toZ, ofZ}
 use Rattle.request.specs.Indices.{names}
-use borrow.Author.Needs.{needs}
 use Rattle.request.proofs.Request.names_one.Statement.{statement}
 use Rattle.request.proofs.Request.names_one.Tie as tie
 

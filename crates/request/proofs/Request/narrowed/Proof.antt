@@ -1,9 +1,8 @@
 -- `Request::narrowed`: where all three are 0 or above, each narrowed.
-use mathlib.Core.Path.{_≡_, ap, _∙_}
+use Rattle.lemmas.proofs.Basics.{_≡_, ap, _∙_, needs}
 use mir.Syntax.{w32}
 use mir.Val.{toZ, ofZ}
 use Rattle.request.specs.Indices.{natural, namedOf, askedOf}
-use borrow.Author.Needs.{needs}
 use Rattle.request.proofs.Request.narrowed.Statement.{statement}
 use Rattle.request.proofs.Request.narrowed.Tie as tie
 
@@ -24,12 +23,7 @@ unfolding askedOf namedOf
 returns-2 c = rw (← c .before .names-one .ensures, c .if1 .left)
 
 pub narrowed-spec : {M : Type 1} → statement M
-narrowed-spec =
-    tie.close
-    (tie.spec
-    (λ c κs. search needs)
-    (λ c κs. search needs)
-    (λ c κs. search needs)
-    (λ c κs. search needs)
+narrowed-spec = tie.close (tie.spec
+    (λ c κs. search needs) (λ c κs. search needs) (λ c κs. search needs) (λ c κs. search needs)
     returns
     returns-2)

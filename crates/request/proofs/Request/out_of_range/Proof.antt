@@ -1,9 +1,8 @@
 -- `Request::out_of_range`: any of the three tests.
-use mathlib.Core.Path.{_≡_, ap, _∙_}
+use Rattle.lemmas.proofs.Basics.{_≡_, ap, _∙_, needs}
 use mir.Syntax.{w32}
 use mir.Val.{toZ, ofZ}
 use Rattle.request.specs.Indices.{below, outside, outOfRange}
-use borrow.Author.Needs.{needs}
 use Rattle.request.proofs.Request.out_of_range.Statement.{statement}
 use Rattle.request.proofs.Request.out_of_range.Tie as tie
 

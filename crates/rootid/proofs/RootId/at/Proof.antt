@@ -1,8 +1,7 @@
 -- `RootId::at`: the two halves of the part.
-use mathlib.Core.Path.{ap, _∙_}
+use Rattle.lemmas.proofs.Basics.{ap, _∙_, needs}
 use Rattle.wire.specs.Parts.{beAt}
 use Rattle.rootid.specs.Root.{rootAt}
-use borrow.Author.Needs.{needs}
 use Rattle.rootid.proofs.RootId.at.Statement.{statement}
 use Rattle.rootid.proofs.RootId.at.Tie as tie
 

@@ -1,5 +1,5 @@
 -- `RootId::is`: both halves.
-use borrow.Author.Tests.{eq-eqb, ne-eqb}
+use Rattle.lemmas.proofs.Basics.{eq-eqb, ne-eqb}
 use Rattle.rootid.specs.Root.{sameRoot}
 use Rattle.rootid.proofs.RootId.is.Statement.{statement}
 use Rattle.rootid.proofs.RootId.is.Tie as tie

@@ -1,13 +1,10 @@
 -- `RootId::put`: the two halves, each into its own eight bytes.
-use native.Mathlib.Omega.{arith}
-use mathlib.Core.List.{[]}
-use mathlib.Core.Path.{refl, sym}
+use Rattle.lemmas.proofs.Basics.{arith, [], refl, sym, needs}
 use Rattle.wire.specs.Numbers.{beBytes}
 use Rattle.wire.proofs.Numbers.{length-beBytes}
 use Rattle.wire.proofs.Writing.{lent, onto-none, onto-out}
 use Rattle.rootid.specs.Root.{rootBytes}
 use Rattle.rootid.proofs.Roots.{length-rootBytes}
-use borrow.Author.Needs.{needs}
 use Rattle.rootid.proofs.RootId.put.Statement.{statement}
 use Rattle.rootid.proofs.RootId.put.Tie as tie
 
@@ -28,17 +25,8 @@ returns-2 c =
     sym (onto-out (rootBytes (a .self)) (a .dst .now) (omega (arith, length-rootBytes (a .self))))
 
 pub put-spec : {M : Type 1} → statement M
-put-spec =
-    tie.close
-    (tie.spec
-    (λ c. search needs)
-    (λ c. search needs)
-    (λ c. search needs)
-    (λ c κs. search needs)
-    (λ c. search needs)
-    (λ c. search needs)
-    (λ c. search needs)
-    (λ c κs. search needs)
-    (λ c. search needs)
+put-spec = tie.close (tie.spec
+    (λ c. search needs) (λ c. search needs) (λ c. search needs) (λ c κs. search needs) (λ c. search needs) (λ c. search needs)
+    (λ c. search needs) (λ c κs. search needs) (λ c. search needs)
     returns
     returns-2)

@@ -1,7 +1,6 @@
 -- `Best::or_better`: by cases, and the one test.
-use borrow.Author.Tests.{lt-ltb, le-ltb}
-use Rattle.roottable.specs.Selection.{better}
-use borrow.Author.Needs.{needs}
+use Rattle.lemmas.proofs.Basics.{needs, lt-ltb, le-ltb}
+use Rattle.roottable.specs.Passing.{better}
 use Rattle.roottable.proofs.Best.or_better.Statement.{statement}
 use Rattle.roottable.proofs.Best.or_better.Tie as tie
 

@@ -1,6 +1,6 @@
 -- `Wanted::rank_of`: by cases.
 use Rattle.roottable.specs.Rows.{rank}
-use borrow.Author.Needs.{needs}
+use Rattle.lemmas.proofs.Basics.{needs}
 use Rattle.roottable.proofs.Wanted.rank_of.Statement.{statement}
 use Rattle.roottable.proofs.Wanted.rank_of.Tie as tie
 

@@ -1,6 +1,6 @@
 -- `Wanted::suits`: by cases.
 use Rattle.roottable.specs.Rows.{suitable}
-use borrow.Author.Needs.{needs}
+use Rattle.lemmas.proofs.Basics.{needs}
 use Rattle.roottable.proofs.Wanted.suits.Statement.{statement}
 use Rattle.roottable.proofs.Wanted.suits.Tie as tie
 

@@ -1,0 +1,145 @@
+// Document 01, "Group Key Envelope", as C has its answer, and the head as C hands it in.
+ghost use mathlib.Core.Path.{_≡_};
+ghost use Rattle.face_envelopes.specs.Envelopes.{headShown, headFrom, bodiesShown, envelopeAnswer, noEnvelope};
+use envelope::Bodies;
+use envelope::EnvelopeRead;
+use envelope::Head;
+use face::Identifier;
+use face::Part;
+use face::RootBytes;
+use face::bool_code;
+use face::form_code;
+use face::to_bytes;
+use face::to_gkid;
+use face::to_identifier;
+use face::to_part;
+use face::to_root;
+use wire::Span;
+
+// The head's values, as a reader shows them and a writer takes them.
+#[repr(C)]
+pub struct EnvelopeHead {
+    pub version: u32,
+    pub flags: u32,
+    pub at: Identifier,
+    pub root: RootBytes,
+    pub privatelen: u32,
+    pub publiclen: u32,
+}
+
+// Where the eight bodies stand.
+#[repr(C)]
+pub struct EnvelopeBodies {
+    pub kdf: Part,
+    pub kdfparams: Part,
+    pub agreement: Part,
+    pub agreeparams: Part,
+    pub domain: Part,
+    pub forest: Part,
+    pub l1key: Part,
+    pub l2key: Part,
+}
+
+// An envelope. Its form, by the keys present, is 0 for NOKEY, 1 for L1ONLY, 2 for L2ONLY, 3 for BOTH, 4 for PUBLIC.
+#[repr(C)]
+pub struct EnvelopeAnswer {
+    pub refusal: u32,
+    pub form: u32,
+    pub public: u32,
+    pub head: EnvelopeHead,
+    pub bodies: EnvelopeBodies,
+}
+
+pub fn head_from(given: EnvelopeHead) -> Head
+    ensures { λ r. ⌜ r ≡ headFrom given ⌝ }
+{
+    Head {
+        version: given.version,
+        flags: given.flags,
+        at: to_gkid(given.at),
+        root: to_root(given.root),
+        privatelen: given.privatelen,
+        publiclen: given.publiclen,
+    }
+}
+
+pub fn envelope_answer(read: EnvelopeRead) -> EnvelopeAnswer
+    ensures { λ r. ⌜ r ≡ envelopeAnswer read ⌝ }
+{
+    match read {
+        EnvelopeRead::Accepted(envelope) => {
+            let head = envelope.head;
+            let bodies = envelope.bodies;
+            EnvelopeAnswer {
+                refusal: 0,
+                form: form_code(envelope::form_of(envelope)),
+                public: bool_code(envelope::is_public(head.flags)),
+                head: head_answer(head),
+                bodies: bodies_answer(bodies),
+            }
+        }
+        EnvelopeRead::Refused(refusal) => no_envelope(refusal.number()),
+    }
+}
+
+fn head_answer(head: Head) -> EnvelopeHead
+    ensures { λ r. ⌜ r ≡ headShown head ⌝ }
+{
+    EnvelopeHead {
+        version: head.version,
+        flags: head.flags,
+        at: to_identifier(head.at),
+        root: to_bytes(head.root),
+        privatelen: head.privatelen,
+        publiclen: head.publiclen,
+    }
+}
+
+fn bodies_answer(bodies: Bodies) -> EnvelopeBodies
+    ensures { λ r. ⌜ r ≡ bodiesShown bodies ⌝ }
+{
+    EnvelopeBodies {
+        kdf: to_part(bodies.kdf),
+        kdfparams: to_part(bodies.kdfparams),
+        agreement: to_part(bodies.agreement),
+        agreeparams: to_part(bodies.agreeparams),
+        domain: to_part(bodies.domain),
+        forest: to_part(bodies.forest),
+        l1key: to_part(bodies.l1key),
+        l2key: to_part(bodies.l2key),
+    }
+}
+
+// A refused envelope: its number, and zeros.
+fn no_envelope(refusal: u32) -> EnvelopeAnswer
+    ensures { λ r. ⌜ r ≡ noEnvelope refusal ⌝ }
+{
+    let none = Span { at: 0, len: 0 };
+    EnvelopeAnswer {
+        refusal,
+        form: 0,
+        public: 0,
+        head: EnvelopeHead {
+            version: 0,
+            flags: 0,
+            at: Identifier {
+                l0: 0,
+                l1: 0,
+                l2: 0,
+            },
+            root: RootBytes { bytes: [0; 16] },
+            privatelen: 0,
+            publiclen: 0,
+        },
+        bodies: bodies_answer(Bodies {
+            kdf: none,
+            kdfparams: none,
+            agreement: none,
+            agreeparams: none,
+            domain: none,
+            forest: none,
+            l1key: none,
+            l2key: none,
+        }),
+    }
+}

@@ -1,0 +1,2 @@
+pub mod ExactlyWhen
+pub mod FormLaws

@@ -1,0 +1,3 @@
+pub mod KeyRule
+pub mod WellFormed
+pub mod Forms

@@ -1,0 +1,124 @@
+// Document 01, "Group Key Envelope", 11, and "The GetKey decision", Form: the rule on the lengths of an envelope's two keys, and the
+// forms, which say what keys there are.
+ghost use mathlib.Core.Path.{_≡_};
+ghost use Rattle.refusal.specs.Chain.{firstOf};
+ghost use Rattle.keys.specs.KeyRule.{l1KeyAllowed, l2KeyAllowed, keysAllowed, keyChecks};
+ghost use Rattle.keys.specs.Forms.{keysOf, seedForm, seedKeyLength, seedChecks};
+use gkid::Gkid;
+use refusal::Outcome;
+use refusal::Refusal;
+
+// Which keys an envelope carries: NOKEY, L1ONLY, L2ONLY, BOTH or PUBLIC.
+pub enum Form {
+    Keyless,
+    L1Only,
+    L2Only,
+    Both,
+    Public,
+}
+
+// The seed keys that are present.
+pub struct SeedKeys {
+    pub l1: bool,
+    pub l2: bool,
+}
+
+// L1 key: length 0 or 64, and 0 if public or if L1 = 0 and L2 is not 31.
+fn l1_key_allowed(public: bool, at: Gkid, len: usize) -> bool
+    ensures { λ r. ⌜ r ≡ l1KeyAllowed public at len ⌝ }
+{
+    if public {
+        return len == 0;
+    }
+    if at.l1.0 == 0 && at.l2.0 != 31 {
+        return len == 0;
+    }
+    len == 0 || len == 64
+}
+
+// L2 key: 0 if L2 = 31; else 0, or 64 for a seed, or the public key length for a public envelope.
+fn l2_key_allowed(public: bool, at: Gkid, publen: usize, len: usize) -> bool
+    ensures { λ r. ⌜ r ≡ l2KeyAllowed public at publen len ⌝ }
+{
+    if at.l2.0 == 31 {
+        return len == 0;
+    }
+    if public {
+        return len == 0 || len == publen;
+    }
+    len == 0 || len == 64
+}
+
+fn keys_allowed(public: bool, at: Gkid, publen: usize, l1len: usize, l2len: usize) -> bool
+    ensures { λ r. ⌜ r ≡ keysAllowed public at publen l1len l2len ⌝ }
+{
+    l1_key_allowed(public, at, l1len) && l2_key_allowed(public, at, publen, l2len)
+}
+
+// Whether keys of these lengths are accepted, or their refusal.
+pub fn judge(public: bool, at: Gkid, publen: usize, l1len: usize, l2len: usize) -> Outcome
+    ensures { λ r. ⌜ r ≡ firstOf (keyChecks public at publen l1len l2len) ⌝ }
+{
+    let allowed = keys_allowed(public, at, publen, l1len, l2len);
+    Outcome::Accepted.refuse_if(!allowed, Refusal::KeyLength)
+}
+
+impl Form {
+    // The seed keys of a form. A public key is none.
+    pub fn keys(self) -> SeedKeys
+        ensures { λ r. ⌜ r ≡ keysOf self ⌝ }
+    {
+        match self {
+            Form::Keyless => SeedKeys {
+                l1: false,
+                l2: false,
+            },
+            Form::L1Only => SeedKeys {
+                l1: true,
+                l2: false,
+            },
+            Form::L2Only => SeedKeys {
+                l1: false,
+                l2: true,
+            },
+            Form::Both => SeedKeys { l1: true, l2: true },
+            Form::Public => SeedKeys {
+                l1: false,
+                l2: false,
+            },
+        }
+    }
+}
+
+// The form that seed rights give at an identifier.
+pub fn seed_form(at: Gkid) -> Form
+    ensures { λ r. ⌜ r ≡ seedForm at ⌝ }
+{
+    if at.l2.0 == 31 {
+        return Form::L1Only;
+    }
+    if at.l1.0 == 0 {
+        return Form::L2Only;
+    }
+    Form::Both
+}
+
+// The length of a seed key that is present or absent.
+fn seed_key_length(present: bool) -> usize
+    ensures { λ r. ⌜ r ≡ seedKeyLength present ⌝ }
+{
+    if present { 64 } else { 0 }
+}
+
+impl SeedKeys {
+    // What a seed envelope at an identifier with just those keys is answered: 5, then the key rule.
+    pub fn judge(self, at: Gkid) -> Outcome
+        ensures { λ r. ⌜ r ≡ firstOf (seedChecks self at) ⌝ }
+    {
+        let l1 = seed_key_length(self.l1);
+        let l2 = seed_key_length(self.l2);
+        Outcome::Accepted
+            .refuse_if(at.index_above_31(), Refusal::IndexAbove31)
+            .then(judge(false, at, 0, l1, l2))
+    }
+}

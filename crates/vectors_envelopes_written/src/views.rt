@@ -1,0 +1,96 @@
+// An envelope with a value of its own in each field, with all that it shows; and written again.
+use crate::print;
+use cases::FILL;
+use cases::MARK;
+use envelope::Bodies;
+use envelope::EnvelopePart;
+use envelope::EnvelopeRead;
+use envelope::Head;
+use line::Line;
+use wire::Span;
+
+pub fn run() {
+    let mut s = [0; 226];
+    cases::envelope(
+        &mut s,
+        [7, MARK, 0x8000_0002, 5, 3, 7],
+        b"\x01\x02\x03\x04\x05\x06\x07\x08\x09\x0a\x0b\x0c\x0d\x0e\x0f\x10",
+        [4, 1, 2, 3, 9, 10, 64, 64, 6, 2],
+    );
+    cases::bytes(&mut s, 80, b"a\0\0\0p\0\0qrsb\0c\0\0\0\0\0key");
+    view(&s);
+}
+
+fn view(s: &[u8]) {
+    let line = Line::new().text(b"envelope: all values: ");
+    match envelope::read(s) {
+        EnvelopeRead::Accepted(envelope) => {
+            let head = envelope.head;
+            let bodies = envelope.bodies;
+            print(show_bodies(show_head(line, head), bodies));
+            rewritten(head, s);
+        }
+        EnvelopeRead::Refused(refusal) => print(words::refused(line, refusal)),
+    }
+}
+
+fn show_head(line: Line, head: Head) -> Line {
+    let at = head.at;
+    let root = head.root;
+    let flags = line.text(b"VERSION ")
+        .number(head.version as u64)
+        .text(b" FLAGS ")
+        .number(head.flags as u64);
+    let rooted = words::identifier(flags.text(b" AT "), at)
+        .text(b" ROOT ")
+        .number(root.high)
+        .text(b" ")
+        .number(root.low);
+    rooted
+        .text(b" PRIVATE ")
+        .number(head.privatelen as u64)
+        .text(b" PUBLIC ")
+        .number(head.publiclen as u64)
+}
+
+// The eight places.
+fn show_bodies(line: Line, bodies: Bodies) -> Line {
+    let kdf = bodies.kdf;
+    let kdfparams = bodies.kdfparams;
+    let agreement = bodies.agreement;
+    let agreeparams = bodies.agreeparams;
+    let domain = bodies.domain;
+    let forest = bodies.forest;
+    let l1key = bodies.l1key;
+    let l2key = bodies.l2key;
+    let kdfs = place(place(line.text(b" BODIES"), kdf), kdfparams);
+    let agreements = place(place(kdfs, agreement), agreeparams);
+    let names = place(place(agreements, domain), forest);
+    place(place(names, l1key), l2key)
+}
+
+fn place(line: Line, span: Span) -> Line {
+    words::span(line.text(b" "), span)
+}
+
+// What was read from an accepted envelope is written, and the bytes compared.
+fn rewritten(head: Head, s: &[u8]) {
+    let mut out = [FILL; 226];
+    print(rewrite(Line::new().text(b"envelope rewritten: "), &mut out, head, s));
+}
+
+fn rewrite(line: Line, out: &mut [u8], head: Head, s: &[u8]) -> Line {
+    let answer = envelope::write(
+        out,
+        head,
+        envelope::part(s, EnvelopePart::Kdf),
+        envelope::part(s, EnvelopePart::KdfParameters),
+        envelope::part(s, EnvelopePart::Agreement),
+        envelope::part(s, EnvelopePart::AgreementParameters),
+        envelope::part(s, EnvelopePart::Domain),
+        envelope::part(s, EnvelopePart::Forest),
+        envelope::part(s, EnvelopePart::L1Key),
+        envelope::part(s, EnvelopePart::L2Key),
+    );
+    cases::compared(words::written(line, answer).text(b" "), out, s)
+}
