@@ -1,6 +1,7 @@
 # run: the program on an envelope that is kept here. test: the whole gate. lib: the static library and its header, into build/.
-# bench: the library against the reference. soak: both on random inputs until stopped. vectors: the papers' bench cases.
-.PHONY: run test lib bench soak vectors host doc fmt
+# bench: the library against the reference, by time. count: the same by instructions. soak: both on random inputs until stopped.
+# vectors: the papers' bench cases.
+.PHONY: run test lib bench count soak vectors host doc fmt
 
 CARGO = cargo --offline --quiet
 CFLAGS = -std=c99 -Wall -Wextra -Werror -pedantic -O2
@@ -24,6 +25,10 @@ build/libgishwarem.a: $(SOURCES)
 
 bench: lib
 	@cd rust && $(CARGO) run --release --bin bench
+
+count: lib
+	@cd rust && $(CARGO) build --release --bin bench
+	@scripts/count
 
 soak: lib
 	@cd rust && $(CARGO) run --release --bin soak

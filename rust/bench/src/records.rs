@@ -1,8 +1,14 @@
 //! Valid records of a wished size, made without the library and without the reference's writers.
 
 /// A little-endian number put into a record.
-pub fn put(record: &mut [u8], at: usize, number: u32) {
+fn put(record: &mut [u8], at: usize, number: u32) {
     record[at..at + 4].copy_from_slice(&number.to_le_bytes());
+}
+
+/// A record with another number at `at`.
+pub fn with(mut record: Vec<u8>, at: usize, number: u32) -> Vec<u8> {
+    put(&mut record, at, number);
+    record
 }
 
 /// A public key item of `len` bytes, which begins with its own length.
@@ -12,11 +18,16 @@ pub fn item(len: usize) -> Vec<u8> {
     item
 }
 
+/// A FEK of `len` bytes.
+pub fn fek(len: usize) -> Vec<u8> {
+    vec![9; len]
+}
+
 /// An entry with an item and a FEK of these lengths, the FEK straight after the item.
 pub fn entry(item_len: usize, fek_len: usize) -> Vec<u8> {
     let mut entry = vec![0; 20];
     entry.extend(item(item_len));
-    entry.extend(vec![9; fek_len]);
+    entry.extend(fek(fek_len));
     let len = entry.len() as u32;
     for (at, number) in [
         (0, len),
@@ -45,11 +56,16 @@ pub const SID: [u8; 28] = {
     sid
 };
 
+/// A certificate of `len` bytes.
+pub fn certificate(len: usize) -> Vec<u8> {
+    vec![5; len]
+}
+
 /// An EfsKey with a SID and a certificate of this length.
 pub fn efskey(certificate_len: usize) -> Vec<u8> {
     let mut key = vec![0; 32];
     key.extend(SID);
-    key.extend(vec![5; certificate_len]);
+    key.extend(certificate(certificate_len));
     let len = key.len() as u32;
     let numbers = [
         (0, len),

@@ -1,4 +1,6 @@
 //! What the reference answers, in the library's own structs: the refusal's number, and zeros beside it.
+//!
+//! The benchmark measures these functions as well, so they allocate nothing and are inlined into what calls them.
 
 use gishwarem::raw::{
     codes, Bodies, ChoiceAnswer, DecisionAnswer, EfsKeyAnswer, EntryAnswer, EnvelopeAnswer, Head,
@@ -85,6 +87,7 @@ fn rights(code: u32) -> Rights {
 }
 
 /// Reads an entry.
+#[inline]
 pub fn entry_read(bytes: &[u8]) -> EntryAnswer {
     match entry::read(bytes) {
         Ok(entry) => EntryAnswer {
@@ -99,31 +102,25 @@ pub fn entry_read(bytes: &[u8]) -> EntryAnswer {
     }
 }
 
-/// A writer's answer and its record, which is empty on a refusal.
-fn written(
-    room: usize,
-    write: impl FnOnce(&mut [u8]) -> Result<usize, u32>,
-) -> (WrittenAnswer, Vec<u8>) {
-    let mut record = vec![0x5C; room];
-    let (refusal, len) = match write(&mut record) {
-        Ok(len) => (0, len),
-        Err(number) => (number, 0),
-    };
-    record.truncate(len);
-    let answer = WrittenAnswer {
-        refusal,
-        reserved: 0,
-        len,
-    };
-    (answer, record)
+fn written(written: Result<usize, u32>) -> WrittenAnswer {
+    match written {
+        Ok(len) => WrittenAnswer {
+            refusal: 0,
+            reserved: 0,
+            len,
+        },
+        Err(number) => refused!(WrittenAnswer, number),
+    }
 }
 
 /// Writes an entry.
-pub fn entry_write(room: usize, flags: u32, item: &[u8], fek: &[u8]) -> (WrittenAnswer, Vec<u8>) {
-    written(room, |out| entry::write(out, flags, item, fek))
+#[inline]
+pub fn entry_write(out: &mut [u8], flags: u32, item: &[u8], fek: &[u8]) -> WrittenAnswer {
+    written(entry::write(out, flags, item, fek))
 }
 
 /// Judges a list. A refusal that is given for an entry tells the entry's index.
+#[inline]
 pub fn list_judge(bytes: &[u8]) -> ListAnswer {
     match list::judge(bytes) {
         Ok(count) => ListAnswer {
@@ -141,6 +138,7 @@ pub fn list_judge(bytes: &[u8]) -> ListAnswer {
 
 /// Takes one step of a list's walk. A refusal that is given for an entry tells the entry's index; the end keeps the
 /// place.
+#[inline]
 pub fn list_step(bytes: &[u8], place: usize, number: u32) -> StepAnswer {
     match list::step(bytes, place, number) {
         Ok(Step::Entry {
@@ -176,6 +174,7 @@ pub fn list_step(bytes: &[u8], place: usize, number: u32) -> StepAnswer {
 }
 
 /// Reads an EfsKey.
+#[inline]
 pub fn efskey_read(bytes: &[u8]) -> EfsKeyAnswer {
     match efskey::read(bytes) {
         Ok(key) => EfsKeyAnswer {
@@ -193,16 +192,18 @@ pub fn efskey_read(bytes: &[u8]) -> EfsKeyAnswer {
 }
 
 /// Writes an EfsKey.
-pub fn efskey_write(room: usize, sid: &[u8], certificate: &[u8]) -> (WrittenAnswer, Vec<u8>) {
-    written(room, |out| efskey::write(out, sid, certificate))
+#[inline]
+pub fn efskey_write(out: &mut [u8], sid: &[u8], certificate: &[u8]) -> WrittenAnswer {
+    written(efskey::write(out, sid, certificate))
 }
 
 /// Reads an envelope; its form goes by the keys present.
+#[inline]
 pub fn envelope_read(bytes: &[u8]) -> EnvelopeAnswer {
-    match envelope::read(bytes).and_then(|read| Ok((read, reach::of_envelope(bytes)?))) {
-        Ok((read, reach)) => EnvelopeAnswer {
+    match envelope::read(bytes) {
+        Ok(read) => EnvelopeAnswer {
             refusal: 0,
-            form: form_code(reach.form),
+            form: form_code(Form::of(&read)),
             // "Bit 31 (LSB)" of dwFlags has the value 1: public.
             is_public: read.head.flags & 1,
             head: Head {
@@ -231,7 +232,8 @@ pub fn envelope_read(bytes: &[u8]) -> EnvelopeAnswer {
 }
 
 /// Writes an envelope from its head and its bodies in their order.
-pub fn envelope_write(room: usize, head: &Head, bodies: [&[u8]; 8]) -> (WrittenAnswer, Vec<u8>) {
+#[inline]
+pub fn envelope_write(out: &mut [u8], head: &Head, bodies: [&[u8]; 8]) -> WrittenAnswer {
     let head = envelope::Head {
         version: head.version,
         flags: head.flags,
@@ -252,7 +254,7 @@ pub fn envelope_write(room: usize, head: &Head, bodies: [&[u8]; 8]) -> (WrittenA
         l1_key,
         l2_key,
     };
-    written(room, |out| envelope::write(out, &head, &bodies))
+    written(envelope::write(out, &head, &bodies))
 }
 
 fn reached(reach: Result<Reach, u32>) -> ReachAnswer {
@@ -267,11 +269,13 @@ fn reached(reach: Result<Reach, u32>) -> ReachAnswer {
 }
 
 /// The reach of an envelope.
+#[inline]
 pub fn envelope_reach(bytes: &[u8]) -> ReachAnswer {
     reached(reach::of_envelope(bytes))
 }
 
 /// The reach of a form.
+#[inline]
 pub fn form_reach(code: u32, at: Identifier) -> ReachAnswer {
     reached(reach::of_form(form(code), gkid(at)))
 }
@@ -285,11 +289,13 @@ fn found(id: Gkid) -> IdentifierAnswer {
 }
 
 /// The identifier of a reading.
+#[inline]
 pub fn time_identifier(reading: u64) -> IdentifierAnswer {
     found(time::at(reading))
 }
 
 /// The start of an identifier.
+#[inline]
 pub fn identifier_start(at: Identifier) -> StartAnswer {
     match time::start(gkid(at)) {
         Ok(time) => StartAnswer {
@@ -302,6 +308,7 @@ pub fn identifier_start(at: Identifier) -> StartAnswer {
 }
 
 /// The next older identifier; zeros stand beside none.
+#[inline]
 pub fn identifier_older(at: Identifier) -> IdentifierAnswer {
     match time::older(gkid(at)) {
         Ok(Some(id)) => found(id),
@@ -311,6 +318,7 @@ pub fn identifier_older(at: Identifier) -> IdentifierAnswer {
 }
 
 /// The GetKey decision. A verdict or a root's code that isn't listed is the weakest: no, and none.
+#[inline]
 pub fn decide(
     verdict: u32,
     rights_code: u32,
@@ -345,6 +353,7 @@ pub fn decide(
 }
 
 /// The choice between two envelopes.
+#[inline]
 pub fn choose(root: &Root, wanted: Identifier, cached: &[u8], fetched: &[u8]) -> ChoiceAnswer {
     match choice::choose(&root.bytes, gkid(wanted), cached, fetched) {
         Ok(choice) => ChoiceAnswer {

@@ -1,7 +1,7 @@
 //! The reach of a form and of an envelope (document 01, "Reach, and the two
 //! envelopes").
 
-use crate::envelope::{self, Head};
+use crate::envelope::{self, Envelope, Head};
 use crate::time::{Gkid, MAX_INDEX};
 
 /// Which keys an envelope carries.
@@ -20,6 +20,19 @@ pub enum Form {
 }
 
 impl Form {
+    /// The form of an envelope, by the keys present.
+    pub fn of(envelope: &Envelope) -> Self {
+        let has_l1 = envelope.l1_key.len != 0;
+        let has_l2 = envelope.l2_key.len != 0;
+        match (has_l1, has_l2) {
+            (false, false) => Form::Keyless,
+            _ if envelope.head.is_public() => Form::Public,
+            (true, false) => Form::L1Only,
+            (false, true) => Form::L2Only,
+            (true, true) => Form::Both,
+        }
+    }
+
     /// Whether the form has an L1 seed key.
     fn has_l1_seed(self) -> bool {
         matches!(self, Form::L1Only | Form::Both)
@@ -64,16 +77,7 @@ pub fn of_form(form: Form, at: Gkid) -> Result<Reach, u32> {
 /// The reach of an envelope, with the form by the keys present.
 pub fn of_envelope(bytes: &[u8]) -> Result<Reach, u32> {
     let envelope = envelope::read(bytes)?;
-    let has_l1 = envelope.l1_key.len != 0;
-    let has_l2 = envelope.l2_key.len != 0;
-    let form = match (has_l1, has_l2) {
-        (false, false) => Form::Keyless,
-        _ if envelope.head.is_public() => Form::Public,
-        (true, false) => Form::L1Only,
-        (false, true) => Form::L2Only,
-        (true, true) => Form::Both,
-    };
-    Ok(of_keys(form, envelope.head.at))
+    Ok(of_keys(Form::of(&envelope), envelope.head.at))
 }
 
 /// The reach of the form's seed keys at an identifier whose indices are sound.

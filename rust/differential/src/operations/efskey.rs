@@ -46,10 +46,7 @@ fn write(rng: &mut Rng, tally: &mut Tally) {
     let mut out = Output::new(rng, room);
     let answer = ask::efskey_write(rng, &mut out, &sid, &certificate);
     let input = (room, Hex(&sid), Hex(&certificate));
-    Asked::new(kind, &input).compare_written(
-        tally,
-        &out,
-        &answer,
-        &expected::efskey_write(room, &sid, &certificate),
-    );
+    Asked::new(kind, &input).compare_written(tally, &out, &answer, |out| {
+        expected::efskey_write(out, &sid, &certificate)
+    });
 }

@@ -48,10 +48,7 @@ fn write(rng: &mut Rng, tally: &mut Tally) {
     let mut out = Output::new(rng, room);
     let answer = ask::entry_write(rng, &mut out, flags, &item, &fek);
     let input = (room, flags, Hex(&item), Hex(&fek));
-    Asked::new(kind, &input).compare_written(
-        tally,
-        &out,
-        &answer,
-        &expected::entry_write(room, flags, &item, &fek),
-    );
+    Asked::new(kind, &input).compare_written(tally, &out, &answer, |out| {
+        expected::entry_write(out, flags, &item, &fek)
+    });
 }

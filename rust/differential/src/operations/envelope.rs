@@ -46,10 +46,7 @@ fn write(rng: &mut Rng, tally: &mut Tally) {
     let mut out = Output::new(rng, room);
     let answer = ask::envelope_write(rng, &mut out, envelope.head, envelope.lent());
     let input = (room, envelope.head, envelope.lent().map(Hex));
-    Asked::new(kind, &input).compare_written(
-        tally,
-        &out,
-        &answer,
-        &expected::envelope_write(room, &envelope.head, envelope.lent()),
-    );
+    Asked::new(kind, &input).compare_written(tally, &out, &answer, |out| {
+        expected::envelope_write(out, &envelope.head, envelope.lent())
+    });
 }

@@ -42,7 +42,8 @@ pub const ALL: [Subject; 15] = [
 ];
 
 /// An answer, which has its refusal's number.
-trait Answer: PartialEq + Debug {
+pub trait Answer: PartialEq + Debug {
+    /// The refusal's number; 0 where the input is accepted.
     fn refusal(&self) -> u32;
 }
 
@@ -83,19 +84,22 @@ impl<'a> Asked<'a> {
         tally.answer(library.refusal());
     }
 
-    /// Compares a writer's answers, and every byte of the lent output and around it.
+    /// Compares a writer's answers, and every byte of the lent output and around it. The reference writes into as much room;
+    /// its record is empty on a refusal.
     fn compare_written(
         &self,
         tally: &mut Tally,
         out: &Output,
         library: &WrittenAnswer,
-        reference: &(WrittenAnswer, Vec<u8>),
+        reference: impl FnOnce(&mut [u8]) -> WrittenAnswer,
     ) {
-        let (answer, record) = reference;
-        self.compare(tally, library, answer);
-        if !out.holds(record) {
+        let mut record = vec![0x5C; out.room()];
+        let answer = reference(&mut record);
+        record.truncate(answer.len);
+        self.compare(tally, library, &answer);
+        if !out.holds(&record) {
             let room = out.first(out.room());
-            self.fail("the lent bytes differ", &Hex(room), &Hex(record));
+            self.fail("the lent bytes differ", &Hex(room), &Hex(&record));
         }
     }
 

@@ -1,0 +1,32 @@
+//! How the sides of an operation are counted: callgrind is told to count inside of `counted` alone, and to write down what it
+//! counted at each return. `scripts/count` reads that beside the lines that are printed here.
+
+use std::hint::black_box;
+
+use crate::sides::{side, Row, Series, Sides};
+
+/// Calls of a side. Each call of one takes the same number of instructions.
+const CALLS: u32 = 100;
+
+/// The name that callgrind knows.
+#[no_mangle]
+#[inline(never)]
+fn counted(side: &mut dyn FnMut(u32)) {
+    side(CALLS);
+    // So that the call above is not the last thing here, which would become a jump.
+    black_box(());
+}
+
+/// Counts a loop that does nothing, and then each side.
+pub fn measure(sides: Sides) {
+    counted(&mut side(|| black_box(())));
+    sides.into_iter().for_each(counted);
+}
+
+/// Prints a line for each row, in the order of counting: calls, operation and input, with tabs between.
+pub fn print(operations: &[Row<()>], growth: &[Series<()>]) {
+    let grown = growth.iter().flat_map(|series| &series.rows);
+    for row in operations.iter().chain(grown.map(|(_, row)| row)) {
+        println!("{CALLS}\t{}\t{}", row.operation, row.input);
+    }
+}

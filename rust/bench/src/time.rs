@@ -1,0 +1,134 @@
+//! How the sides of an operation are timed against each other, and the tables of that.
+
+use std::time::Instant;
+
+use crate::sides::{Row, Series, Sides, FACE, LIBRARY, REFERENCE};
+
+/// Rounds of a measurement; each times every side, one straight after the other.
+const ROUNDS: usize = 201;
+
+/// A round lasts about this long on each side: short, so that few rounds are interrupted.
+const ROUND_NANOSECONDS: u128 = 100_000;
+
+/// What a measurement found.
+pub struct Found {
+    /// Each side's nanoseconds a call, the median of the rounds.
+    sides: [f64; 3],
+    /// The library's time over the reference's.
+    to_reference: Ratio,
+    /// The library's time over that of the reference behind the library's face.
+    to_face: Ratio,
+}
+
+/// A ratio of two sides.
+struct Ratio {
+    /// The median of the rounds' ratios.
+    median: f64,
+    /// Their first and third quartile.
+    spread: (f64, f64),
+}
+
+/// Times the sides, round by round.
+pub fn measure(mut sides: Sides) -> Found {
+    let calls = calls_in_a_round(sides[REFERENCE]);
+    let rounds: Vec<[f64; 3]> = (0..ROUNDS)
+        .map(|first| round(&mut sides, first, calls))
+        .collect();
+    Found {
+        sides: [LIBRARY, REFERENCE, FACE].map(|side| median(&rounds, side)),
+        to_reference: ratio(&rounds, REFERENCE),
+        to_face: ratio(&rounds, FACE),
+    }
+}
+
+/// How many calls fill a round.
+fn calls_in_a_round(side: &mut dyn FnMut(u32)) -> u32 {
+    let mut calls = 1;
+    loop {
+        let start = Instant::now();
+        side(calls);
+        let taken = start.elapsed().as_nanos();
+        if taken >= ROUND_NANOSECONDS / 4 {
+            return (u128::from(calls) * ROUND_NANOSECONDS / taken).max(1) as u32;
+        }
+        calls *= 4;
+    }
+}
+
+/// Each side's nanoseconds a call in one round. From round to round another side goes first.
+fn round(sides: &mut Sides, first: usize, calls: u32) -> [f64; 3] {
+    let mut times = [0.0; 3];
+    for turn in 0..3 {
+        let side = (first + turn) % 3;
+        let start = Instant::now();
+        sides[side](calls);
+        times[side] = start.elapsed().as_nanos() as f64 / f64::from(calls);
+    }
+    times
+}
+
+/// A side's median.
+fn median(rounds: &[[f64; 3]], side: usize) -> f64 {
+    sorted(rounds.iter().map(|times| times[side]))[ROUNDS / 2]
+}
+
+/// The library's ratio to another side.
+fn ratio(rounds: &[[f64; 3]], side: usize) -> Ratio {
+    let ratios = sorted(rounds.iter().map(|times| times[LIBRARY] / times[side]));
+    Ratio {
+        median: ratios[ROUNDS / 2],
+        spread: (ratios[ROUNDS / 4], ratios[3 * ROUNDS / 4]),
+    }
+}
+
+fn sorted(numbers: impl Iterator<Item = f64>) -> Vec<f64> {
+    let mut numbers: Vec<f64> = numbers.collect();
+    numbers.sort_by(f64::total_cmp);
+    numbers
+}
+
+/// Prints the two tables.
+pub fn print(operations: &[Row<Found>], growth: &[Series<Found>]) {
+    println!("Ratio: the library's time over the reference's, the median of {ROUNDS} rounds that time every side. Spread: its quartiles.");
+    println!(
+        "Same face: the reference behind the library's C face, its answer by value and zeros beside a refusal."
+    );
+    println!("Size and time: how often they hold the size and the library's time of the operation's row with 1.0.");
+    println!("\n## Operations\n");
+    head("library, ns | reference, ns | same face, ns", 3);
+    for row in operations {
+        line(row, row.found.sides);
+    }
+    println!("\n## Growth\n");
+    head("size | time", 2);
+    growth.iter().for_each(grown);
+}
+
+/// Prints the head of a table whose last columns are these.
+fn head(last: &str, columns: usize) {
+    println!("| operation | input | ratio | spread | ratio, same face | spread | {last} |");
+    println!("|{}", "---|".repeat(6 + columns));
+}
+
+/// Prints a row of a table with these last columns.
+fn line<const N: usize>(row: &Row<Found>, last: [f64; N]) {
+    print!("| {} | {} |", row.operation, row.input);
+    for ratio in [&row.found.to_reference, &row.found.to_face] {
+        let (low, high) = ratio.spread;
+        print!(" {:.2} | {low:.2} to {high:.2} |", ratio.median);
+    }
+    last.iter().for_each(|number| print!(" {number:.1} |"));
+    println!();
+}
+
+/// Prints the rows of a series.
+fn grown(series: &Series<Found>) {
+    let (size_of_one, of_one) = &series.rows[series.one];
+    for (size, row) in &series.rows {
+        let size = *size as f64 / *size_of_one as f64;
+        line(
+            row,
+            [size, row.found.sides[LIBRARY] / of_one.found.sides[LIBRARY]],
+        );
+    }
+}
