@@ -4,6 +4,8 @@
 .PHONY: run test lib bench count soak vectors host doc fmt
 
 CARGO = cargo --offline --quiet
+# What bench and count are compiled by: `measured` has the reference compiled as one whole, `release` crate by crate.
+PROFILE = measured
 CFLAGS = -std=c99 -Wall -Wextra -Werror -pedantic -O2
 VECTORS := $(shell sed -n 's/^\(vectors_[a-z_]*\):.*/\1/p' crates.txt)
 SOURCES := crates.txt include/gishwarem.h $(shell find crates -name '*.rt' -o -name '*.antt')
@@ -24,11 +26,11 @@ build/libgishwarem.a: $(SOURCES)
 	@mkdir -p build && cp target/staticlib/libgishwarem.a include/gishwarem.h build/
 
 bench: lib
-	@cd rust && $(CARGO) run --release --bin bench
+	@cd rust && $(CARGO) run --profile $(PROFILE) --bin bench
 
 count: lib
-	@cd rust && $(CARGO) build --release --bin bench
-	@scripts/count
+	@cd rust && $(CARGO) build --profile $(PROFILE) --bin bench
+	@scripts/count rust/target/$(PROFILE)/bench
 
 soak: lib
 	@cd rust && $(CARGO) run --release --bin soak
