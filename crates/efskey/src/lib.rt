@@ -1,26 +1,47 @@
-// Document 01, "EfsKey" (MS-GPEF 2.2.1.2.2): its reader, its parts and its writer.
+// Document 01, "EfsKey" (MS-GPEF 2.2.1.2.2), read and written.
 ghost use mathlib.Core.Path.{_≡_};
-ghost use Prim.Native.Nat.{_+_, _≤_};
+ghost use mathlib.Core.Bool.{_||_};
+ghost use Prim.Native.Nat.{_+_, _-_, _≤_};
 ghost use lib.ListN.{length};
-ghost use Rattle.efskey.specs.Layout.{headOf, lengthsDisagree, certificateMisplaced, areaLength, areaOf, sidMalformed};
-ghost use Rattle.efskey.specs.Reading.{headChecks, shownOf, hintOf, keyOf, hintSpan, spanOf, keyPart};
-ghost use Rattle.efskey.specs.Writing.{keyLength, sidOffset, keyBytes, keyWritten};
 ghost use Rattle.refusal.specs.Chain.{firstOf};
 ghost use Rattle.wire.specs.Parts.{onto};
 ghost use Rattle.records.specs.Writing.{outputOf};
+ghost use Rattle.efskey.specs.Layout.{lengthsDisagree, certificateMisplaced, sidMisplaced, gapWithoutSid, areaOf, areaIn, sidMalformed};
+ghost use Rattle.efskey.specs.Reading.{headChecks, hintOf, shownWith, efsKeyOf, hintSpan, spanOf, efsKeySpan, efsKeyPart};
+ghost use Rattle.efskey.specs.Writing.{efsKeyLength, offsetFor, efsKeyBytes, writeChecks, efsKeyWritten};
 use records::LIMIT;
 use records::Written;
-use records::fitted;
 use records::grown;
 use refusal::Outcome;
 use refusal::Refusal;
 use sid::is_sid;
 use wire::Span;
+use wire::copy_into;
+use wire::le32_at;
+use wire::put_le32s;
+
+// An accepted EfsKey: its SID, if it has one, and where the certificate stands, counted from byte 0 of the record.
+pub struct EfsKey {
+    pub sid: SidHint,
+    pub certificate: Span,
+}
 
 // The SID of an EfsKey: a hint on who made the key, which may be absent.
 pub enum SidHint {
     None,
     Sid(Span),
+}
+
+// What reading an EfsKey answers.
+pub enum EfsKeyRead {
+    Accepted(EfsKey),
+    Refused(Refusal),
+}
+
+// The parts of an EfsKey.
+pub enum EfsKeyPart {
+    Sid,
+    Certificate,
 }
 
 // What stands between the head and the certificate: nothing, one SID, or something else.
@@ -30,27 +51,9 @@ enum SidArea {
     Malformed,
 }
 
-// What an accepted EfsKey shows. Its spans count from byte 0 of the record.
-pub struct EfsKey {
-    pub sid: SidHint,
-    pub certificate: Span,
-}
-
-// What reading a record answers.
-pub enum KeyRead {
-    Key(EfsKey),
-    Refused(Refusal),
-}
-
-// The parts of a record.
-pub enum KeyPart {
-    Sid,
-    Certificate,
-}
-
 impl SidHint {
     // An absent SID is empty at 0.
-    fn span(self) -> Span
+    pub fn span(self) -> Span
         ensures { λ r. ⌜ r ≡ hintSpan self ⌝ }
     {
         match self {
@@ -60,126 +63,107 @@ impl SidHint {
     }
 }
 
-impl KeyRead {
+impl EfsKeyRead {
     // Where a part stands: each part of a refused record, and an absent SID, is empty at 0.
-    pub fn span(self, which: KeyPart) -> Span
+    pub fn span(self, which: EfsKeyPart) -> Span
         ensures { λ r. ⌜ r ≡ spanOf self which ⌝ }
     {
         match self {
-            KeyRead::Refused(_) => Span { at: 0, len: 0 },
-            KeyRead::Key(key) => {
+            EfsKeyRead::Accepted(key) => {
                 let sid = key.sid;
                 let certificate = key.certificate;
                 match which {
-                    KeyPart::Sid => sid.span(),
-                    KeyPart::Certificate => certificate,
+                    EfsKeyPart::Sid => sid.span(),
+                    EfsKeyPart::Certificate => certificate,
                 }
             }
+            EfsKeyRead::Refused(_) => Span { at: 0, len: 0 },
         }
     }
 }
 
-// The numbers of the head, as they stand. Both offsets count from byte 4.
-struct Head {
-    length1: u32,
-    length2: u32,
-    sid_offset: u32,
-    reserved1: u32,
-    certificate_length: u32,
-    certificate_offset: u32,
+// What an EfsKey shows, or its refusal. The SID area comes last, and what it holds is both judged and shown.
+pub fn read(s: &[u8]) -> EfsKeyRead
+    ensures { λ r. ⌜ r ≡ efsKeyOf (now (s .entry)) ⌝ }
+{
+    if let Outcome::Refused(refusal) = judge_head(s) {
+        return EfsKeyRead::Refused(refusal);
+    }
+    let area = area_in(s);
+    if area.is_malformed() {
+        return EfsKeyRead::Refused(Refusal::MalformedSid);
+    }
+    EfsKeyRead::Accepted(shown(s, area))
 }
 
-impl Head {
-    fn of(s: &[u8]) -> Head
-        ensures { λ r. ⌜ r ≡ headOf (now (s .entry)) ⌝ }
-    {
-        Head {
-            length1: wire::le32_at(s, 0),
-            length2: wire::le32_at(s, 4),
-            sid_offset: wire::le32_at(s, 8),
-            reserved1: wire::le32_at(s, 12),
-            certificate_length: wire::le32_at(s, 16),
-            certificate_offset: wire::le32_at(s, 20),
-        }
+// The checks before the SID area's, in document 01's order; a number is read just before its check.
+fn judge_head(s: &[u8]) -> Outcome
+    ensures { λ r. ⌜ r ≡ firstOf (headChecks (now (s .entry))) ⌝ }
+{
+    let len = s.len();
+    if LIMIT < len {
+        return Outcome::Refused(Refusal::TooLong);
     }
+    if len < 32 {
+        return Outcome::Refused(Refusal::Short);
+    }
+    let total = le32_at(s, 0);
+    if do_disagree(total, le32_at(s, 4), len) {
+        return Outcome::Refused(Refusal::LengthsDisagree);
+    }
+    if le32_at(s, 12) != 2 {
+        return Outcome::Refused(Refusal::WrongMark);
+    }
+    let certificate = le32_at(s, 16);
+    if certificate == 0 {
+        return Outcome::Refused(Refusal::EmptyItem);
+    }
+    if is_misplaced(le32_at(s, 8), le32_at(s, 20), certificate, total) {
+        return Outcome::Refused(Refusal::Misplaced);
+    }
+    Outcome::Accepted
+}
 
-    // 3 unless Length1 is the record's length and Length2 = Length1 - 4.
-    fn lengths_disagree(self, len: usize) -> bool
-        ensures { λ r. ⌜ r ≡ lengthsDisagree len self ⌝ }
-    {
-        (self.length1 as usize != len) | (self.length2 as u64 + 4 != self.length1 as u64)
-    }
+// 3 unless Length1 is the record's length and Length2 = Length1 - 4.
+fn do_disagree(length1: u32, length2: u32, len: usize) -> bool
+    ensures { λ r. ⌜ r ≡ lengthsDisagree len length1 length2 ⌝ }
+{
+    (length1 as usize != len) | (length2 as usize + 4 != length1 as usize)
+}
 
-    // 6 if the certificate does not stand behind the head and end the record.
-    fn certificate_misplaced(self) -> bool
-        ensures { λ r. ⌜ r ≡ certificateMisplaced self ⌝ }
-    {
-        (self.certificate_offset < 28)
-            | (4 + self.certificate_offset as u64 + self.certificate_length as u64
-                != self.length1 as u64)
+// The three checks that give 6: the certificate ends the record, and stands behind a SID offset of 28, or straight behind the
+// head where there is none.
+fn is_misplaced(sid: u32, offset: u32, certificate: u32, total: u32) -> bool
+    ensures { λ r. ⌜ r ≡ certificateMisplaced offset certificate total || (sidMisplaced sid || gapWithoutSid sid offset) ⌝ }
+{
+    if 4 + offset as usize + certificate as usize != total as usize {
+        return true;
     }
+    if sid == 28 {
+        return offset < 28;
+    }
+    (sid != 0) | (offset != 28)
+}
 
-    // The checks of the head, in document 01's order, for a record of len bytes.
-    fn judge(self, len: usize) -> Outcome
-        ensures { λ r. ⌜ r ≡ firstOf (headChecks len self) ⌝ }
-    {
-        if self.lengths_disagree(len) {
-            return Outcome::Refused(Refusal::LengthsDisagree);
-        }
-        if self.reserved1 != 2 {
-            return Outcome::Refused(Refusal::WrongMark);
-        }
-        if self.certificate_length == 0 {
-            return Outcome::Refused(Refusal::EmptyItem);
-        }
-        if self.certificate_misplaced() {
-            return Outcome::Refused(Refusal::Misplaced);
-        }
-        if (self.sid_offset != 0) & (self.sid_offset != 28) {
-            return Outcome::Refused(Refusal::Misplaced);
-        }
-        if (self.sid_offset == 0) & (self.certificate_offset != 28) {
-            return Outcome::Refused(Refusal::Misplaced);
-        }
-        Outcome::Accepted
-    }
+// What the SID area holds.
+fn area_in(s: &[u8]) -> SidArea
+    ensures { λ r. ⌜ r ≡ areaIn (now (s .entry)) ⌝ }
+{
+    let span = Span {
+        at: 32,
+        len: area_length(le32_at(s, 20)),
+    };
+    SidArea::of(le32_at(s, 8), wire::part(s, span))
+}
 
-    // The SID area, from 32 to the certificate, has this many bytes.
-    fn area_length(self) -> usize
-        ensures { λ r. ⌜ r ≡ areaLength self ⌝ }
-    {
-        if self.certificate_offset < 28 {
-            return 0;
-        }
-        self.certificate_offset as usize - 28
+// The SID area, from 32 to a certificate with this offset, has this many bytes.
+fn area_length(offset: u32) -> usize
+    ensures { λ r. ⌜ r ≡ offset - 28 ⌝ }
+{
+    if offset < 28 {
+        return 0;
     }
-
-    // What an accepted record with this head and SID area shows.
-    fn shown(self, area: SidArea) -> EfsKey
-        ensures { λ r. ⌜ r ≡ shownOf self area ⌝ }
-    {
-        EfsKey {
-            sid: self.hint(area),
-            certificate: Span {
-                at: 4 + self.certificate_offset as usize,
-                len: self.certificate_length as usize,
-            },
-        }
-    }
-
-    // What it shows of its SID.
-    fn hint(self, area: SidArea) -> SidHint
-        ensures { λ r. ⌜ r ≡ hintOf self area ⌝ }
-    {
-        match area {
-            SidArea::None => SidHint::None,
-            SidArea::Sid => SidHint::Sid(Span {
-                at: 32,
-                len: self.area_length(),
-            }),
-            SidArea::Malformed => SidHint::None,
-        }
-    }
+    offset as usize - 28
 }
 
 impl SidArea {
@@ -208,42 +192,79 @@ impl SidArea {
     }
 }
 
-// What a record shows, or its refusal.
-pub fn read(s: &[u8]) -> KeyRead
-    ensures { λ r. ⌜ r ≡ keyOf (now (s .entry)) ⌝ }
+// What an accepted record with this SID area shows.
+fn shown(s: &[u8], area: SidArea) -> EfsKey
+    ensures { λ r. ⌜ r ≡ shownWith (now (s .entry)) area ⌝ }
 {
-    if s.len() > LIMIT {
-        return KeyRead::Refused(Refusal::TooLong);
+    let offset = le32_at(s, 20);
+    EfsKey {
+        sid: hint(offset, area),
+        certificate: Span {
+            at: 4 + offset as usize,
+            len: le32_at(s, 16) as usize,
+        },
     }
-    if s.len() < 32 {
-        return KeyRead::Refused(Refusal::Short);
+}
+
+// What it shows of its SID.
+fn hint(offset: u32, area: SidArea) -> SidHint
+    ensures { λ r. ⌜ r ≡ hintOf offset area ⌝ }
+{
+    match area {
+        SidArea::None => SidHint::None,
+        SidArea::Sid => SidHint::Sid(Span {
+            at: 32,
+            len: area_length(offset),
+        }),
+        SidArea::Malformed => SidHint::None,
     }
-    let head = Head::of(s);
-    if let Outcome::Refused(refusal) = head.judge(s.len()) {
-        return KeyRead::Refused(refusal);
-    }
-    let span = Span {
-        at: 32,
-        len: head.area_length(),
-    };
-    let area = SidArea::of(head.sid_offset, wire::part(s, span));
-    if area.is_malformed() {
-        return KeyRead::Refused(Refusal::MalformedSid);
-    }
-    KeyRead::Key(head.shown(area))
 }
 
 // The bytes of a part: those very bytes of s, or the empty part on a refusal and for an absent SID.
-pub fn part(s: &[u8], which: KeyPart) -> &[u8]
-    ensures bytes { λ r. ⌜ now r ≡ keyPart (now (s .entry)) which ⌝ }
-    ensures place { λ r. ⌜ (r .ptr .0 ≡ s .entry .ptr .0) × (r .ptr .1 ≡ s .entry .ptr .1 + spanOf (keyOf (now (s .entry))) which .at) ⌝ }
+pub fn part(s: &[u8], which: EfsKeyPart) -> &[u8]
+    ensures bytes { λ r. ⌜ now r ≡ efsKeyPart (now (s .entry)) which ⌝ }
+    ensures place { λ r. ⌜ (r .ptr .0 ≡ s .entry .ptr .0) × (r .ptr .1 ≡ s .entry .ptr .1 + efsKeySpan (now (s .entry)) which .at) ⌝ }
 {
     wire::part(s, read(s).span(which))
 }
 
+// Writes an EfsKey of a SID, empty for none, and a certificate: what is given is judged, then 13. A refusal keeps the output's
+// bytes; success keeps those behind the record.
+pub fn write(out: &mut [u8], sid: &[u8], certificate: &[u8]) -> Written
+    ensures answer { λ r. ⌜ r ≡ efsKeyWritten (now (sid .entry)) (now (certificate .entry)) (length (now (out .entry))) ⌝ }
+    ensures output { λ r. ⌜ now (out .exit) ≡ outputOf r (efsKeyBytes (now (sid .entry)) (now (certificate .entry))) (now (out .entry)) ⌝ }
+{
+    if let Outcome::Refused(refusal) = judge_given(sid, certificate) {
+        return Written::Refused(refusal);
+    }
+    let len = 32 + sid.len() + certificate.len();
+    if out.len() < len {
+        return Written::Refused(Refusal::NoRoom);
+    }
+    put(out, sid, certificate);
+    Written::Length(len)
+}
+
+// What the reader would say of the bytes: of its refusals only 1, 7 and 12 can occur.
+fn judge_given(sid: &[u8], certificate: &[u8]) -> Outcome
+    ensures { λ r. ⌜ r ≡ firstOf (writeChecks (now (sid .entry)) (now (certificate .entry))) ⌝ }
+{
+    if LIMIT < grown(grown(32, sid.len()), certificate.len()) {
+        return Outcome::Refused(Refusal::TooLong);
+    }
+    if certificate.len() == 0 {
+        return Outcome::Refused(Refusal::EmptyItem);
+    }
+    let area = SidArea::of(offset_for(sid.len()), sid);
+    if area.is_malformed() {
+        return Outcome::Refused(Refusal::MalformedSid);
+    }
+    Outcome::Accepted
+}
+
 // An empty SID means none: SID offset 0.
-fn sid_offset(len: usize) -> u32
-    ensures { λ r. ⌜ r ≡ sidOffset len ⌝ }
+fn offset_for(len: usize) -> u32
+    ensures { λ r. ⌜ r ≡ offsetFor len ⌝ }
 {
     if len == 0 {
         return 0;
@@ -251,50 +272,24 @@ fn sid_offset(len: usize) -> u32
     28
 }
 
-// The record put at the start of the output, each body into its own part.
-fn fill(out: &mut [u8], sid: &[u8], certificate: &[u8])
-    requires { ⌜ (keyLength (now sid) (now certificate) ≤ 65535) × (keyLength (now sid) (now certificate) ≤ length (now out)) ⌝ }
-    ensures { λ _. ⌜ now (out .exit) ≡ onto (keyBytes (now (sid .entry)) (now (certificate .entry))) (now (out .entry)) ⌝ }
+// The head, and each body into its own part of the output.
+fn put(out: &mut [u8], sid: &[u8], certificate: &[u8])
+    requires { ⌜ (efsKeyLength (now sid) (now certificate) ≤ 65535) × (efsKeyLength (now sid) (now certificate) ≤ length (now out)) ⌝ }
+    ensures { λ _. ⌜ now (out .exit) ≡ onto (efsKeyBytes (now (sid .entry)) (now (certificate .entry))) (now (out .entry)) ⌝ }
 {
     let at = 32 + sid.len();
-    let end = at + certificate.len();
+    let len = at + certificate.len();
     let head = [
-        end as u32,
-        (end - 4) as u32,
-        sid_offset(sid.len()),
+        len as u32,
+        (len - 4) as u32,
+        offset_for(sid.len()),
         2,
         certificate.len() as u32,
         (28 + sid.len()) as u32,
         0,
         0,
     ];
-    wire::put_le32s(&mut out[0..32], &head);
-    wire::copy_into(&mut out[32..at], sid);
-    wire::copy_into(&mut out[at..end], certificate);
-}
-
-// What the reader would answer on the record, then 13. Of its refusals only 1, 7 and 12 can occur.
-fn answer(sid: &[u8], certificate: &[u8], room: usize) -> Written
-    ensures { λ r. ⌜ r ≡ keyWritten (now (sid .entry)) (now (certificate .entry)) room ⌝ }
-{
-    let len = grown(grown(32, sid.len()), certificate.len());
-    let area = SidArea::of(sid_offset(sid.len()), sid);
-    let checks = Outcome::Accepted
-        .refuse_if(len > LIMIT, Refusal::TooLong)
-        .refuse_if(certificate.len() == 0, Refusal::EmptyItem)
-        .refuse_if(area.is_malformed(), Refusal::MalformedSid);
-    fitted(checks, len, room)
-}
-
-// The record of a SID, empty for none, and a certificate. A refusal keeps the output's bytes; success keeps those behind the
-// record.
-pub fn write(out: &mut [u8], sid: &[u8], certificate: &[u8]) -> Written
-    ensures answer { λ r. ⌜ r ≡ keyWritten (now (sid .entry)) (now (certificate .entry)) (length (now (out .entry))) ⌝ }
-    ensures output { λ r. ⌜ now (out .exit) ≡ outputOf r (keyBytes (now (sid .entry)) (now (certificate .entry))) (now (out .entry)) ⌝ }
-{
-    let written = answer(sid, certificate, out.len());
-    if let Written::Length(_) = written {
-        fill(out, sid, certificate);
-    }
-    written
+    put_le32s(&mut out[0..32], &head);
+    copy_into(&mut out[32..at], sid);
+    copy_into(&mut out[at..len], certificate);
 }

@@ -6,22 +6,13 @@ use Rattle.keyentry.specs.Layout.{publicKeyAt, publicKeyLength, fekAt, f
 use Rattle.keyentry.specs.Reading.{entryOf, entryNumber}
 use Rattle.keyentry.specs.WellFormed.{Of, Apart, Used, WellFormed}
 use Rattle.keyentry.proofs.Reading.{accepted-checks, passed, passes}
-use Rattle.keyentry.proofs.Tests.{inside, not-outside, one-first, item-first, fek-first, short-runs, no-long-run}
-
--- the runs where the items (p, n) and (f, e) stand in this order
-ordered : (p n f e L : ℕ) → 0 < e → p + n ≤ f → (runBefore p f ≡ p - 20) × (runBetween p n f e ≡ f - (p + n)) × (runAfter p n f e L ≡ L - (f + e))
-ordered p n f e L some order =
-    let first : min p f ≡ p = omega arith in
-    let last : max p f ≡ f = omega arith in
-    let first-end : min (p + n) (f + e) ≡ p + n = omega arith in
-    let last-end : max (p + n) (f + e) ≡ f + e = omega arith in
-    (rw first, rw (last, first-end), rw last-end)
+use Rattle.keyentry.proofs.Tests.{inside, not-outside, one-first, item-first, fek-first, short-runs, no-long-run, ordered}
 
 -- Of any 9 bytes in a row one is used, where the items stand in this order and the runs are of 8 bytes at most.
 covered : (p n f e L : ℕ) → 20 ≤ p → 0 < n → p + n ≤ f → 0 < e → f + e ≤ L → (runBefore p f ≤ 8) × (runBetween p n f e ≤ 8) × (runAfter p n f e L ≤ 8)
     → (from : ℕ) → 20 ≤ from → from + 9 ≤ L → (k : ℕ) × ((from ≤ k) × ((k < from + 9) × (Of k p n ⊎ Of k f e)))
 covered p n f e L start some order more end runs from low high =
-    let o = ordered p n f e L more order in
+    let o = ordered p n f e L order in
     let before : p - 20 ≤ 8 = rw (o .0) at (runs .0) in
     let between : f - (p + n) ≤ 8 = rw (o .1) at (runs .1) in
     let after : L - (f + e) ≤ 8 = rw (o .2) at (runs .2) in
@@ -94,7 +85,7 @@ short x h = by-cases (λ _. x ≤ 8) (ltb 8 x) (λ q. absurd (h (ltb-true 8 x q)
 
 used-runs : (s : List ℕ) (p n f e : ℕ) → 20 ≤ p → 0 < n → p + n ≤ f → 0 < e → f + e ≤ length s → Used s p n f e
     → (runBefore p f ≤ 8) × (runBetween p n f e ≤ 8) × (runAfter p n f e (length s) ≤ 8)
-used-runs s p n f e start some order more end used = rw (ordered p n f e (length s) more order .0, ordered p n f e (length s) more order .1, ordered p n f e (length s) more order .2) (
+used-runs s p n f e start some order more end used = rw (ordered p n f e (length s) order .0, ordered p n f e (length s) order .1, ordered p n f e (length s) order .2) (
   short (p - 20) (λ h. let k = used 20 (omega arith) (omega arith) in ⊎-elim (λ i. omega arith) (λ i. omega arith) (k .1 .1 .1)),
   short (f - (p + n)) (λ h. let k = used (p + n) (omega arith) (omega arith) in ⊎-elim (λ i. omega arith) (λ i. omega arith) (k .1 .1 .1)),
   short (length s - (f + e)) (λ h. let k = used (f + e) (omega arith) (omega arith) in ⊎-elim (λ i. omega arith) (λ i. omega arith) (k .1 .1 .1)),

@@ -2,3 +2,4 @@ pub mod Tests
 pub mod Reading
 pub mod ExactlyWhen
 pub mod Writing
+pub mod ReadBack

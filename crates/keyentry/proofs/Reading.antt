@@ -1,43 +1,27 @@
 -- Laws of the reader's answer.
-use Rattle.lemmas.proofs.Basics.{ℕ, _+_, _≤_, _<_, arith, false, not, List, _≡_, refl, sym, ap, _∙_, ltb, eqb, length, lt-ltb, le-ltb}
+use Rattle.lemmas.proofs.Basics.{ℕ, _+_, _≤_, arith, false, not, List, _≡_, refl, ap, ltb, eqb, length, ltb-false}
 use Rattle.refusal.specs.declared.Outcome.{Outcome}
 use Rattle.refusal.specs.declared.Outcome.the-variants as outcome
 use Rattle.refusal.specs.declared.Refusal.{Refusal}
-use Rattle.refusal.specs.declared.Refusal.the-variants.{TooLong, Short}
 use Rattle.refusal.specs.Chain.{firstOf, unlessRefused}
-use Rattle.refusal.proofs.Chains.{accepted-pass, pass-accepted, first-here, first-next, unless-zero}
-use Rattle.wire.specs.Parts.{leAt}
+use Rattle.refusal.proofs.Chains.{accepted-pass, pass-accepted, unless-zero}
 use Rattle.keyentry.specs.declared.Entry.{Entry}
 use Rattle.keyentry.specs.declared.EntryRead.{EntryRead}
 use Rattle.keyentry.specs.declared.EntryRead.the-variants.{Accepted, Refused}
-use Rattle.keyentry.specs.Layout.{lengthField, publicKeyAt, publicKeyLength, fekAt, fekLength, flagsOf, outside, overlap, longRun, layoutChecks}
-use Rattle.keyentry.specs.Reading.{entryChecks, shown, entryOf, entryNumber}
+use Rattle.keyentry.specs.declared.EntryPart.{EntryPart}
+use Rattle.keyentry.specs.declared.EntryPart.the-variants.{Item, Fek}
+use Rattle.keyentry.specs.Layout.{lengthField, publicKeyAt, publicKeyLength, fekAt, fekLength, outside, overlap, longRun, runChecks, itemChecks}
+use Rattle.keyentry.specs.Reading.{entryChecks, shown, entryOf, entryNumber, spanOf, entrySpan}
+use Rattle.keyentry.proofs.Tests.{inside}
 
 -- the answer of an outcome
 abbrev pub answer : Outcome → Entry → EntryRead
 answer o e = unlessRefused Refused o (Accepted e)
 
--- 1 and 2 come first; after them the layout's checks are the answer.
-pub entry-long : (s : List ℕ) → 65535 < length s → entryOf s ≡ Refused TooLong
-unfolding entryOf entryChecks unlessRefused
-entry-long s h = ap (λ o. answer o (shown s)) (first-here _ _ _ (lt-ltb 65535 (length s) h))
-
-pub entry-short : (s : List ℕ) → length s ≤ 65535 → length s < 20 → entryOf s ≡ Refused Short
-unfolding entryOf entryChecks unlessRefused
-entry-short s l h = ap (λ o. answer o (shown s)) (first-next _ _ _ (le-ltb 65535 (length s) l) ∙ first-here _ _ _ (lt-ltb (length s) 20 h))
-
-pub entry-layout : (s : List ℕ) → length s ≤ 65535 → 20 ≤ length s
-    → entryOf s ≡ answer (firstOf (layoutChecks (length s) (lengthField s) (publicKeyAt s) (publicKeyLength s) (fekAt s) (fekLength s))) (shown s)
-unfolding entryOf entryChecks
-entry-layout s l h = ap (λ o. answer o (shown s)) (first-next _ _ _ (le-ltb 65535 (length s) l) ∙ first-next _ _ _ (le-ltb (length s) 20 h))
-
--- The answer from the head's numbers, as they were read, and the outcome of the layout's checks on them.
-pub entry-judged : (s : List ℕ) {field p n e f flags : ℕ} {o : Outcome} → length s ≤ 65535 → 20 ≤ length s
-    → field ≡ lengthField s → p ≡ publicKeyAt s → n ≡ leAt 4 s p → e ≡ fekLength s → f ≡ fekAt s → flags ≡ flagsOf s
-    → o ≡ firstOf (layoutChecks (length s) field p n f e)
-    → entryOf s ≡ answer o (record { flags = flags; item = record { at = p; len = n }; fek = record { at = f; len = e } })
-unfolding shown
-entry-judged s l h is-field is-p is-n is-e is-f is-flags judged = rw (entry-layout s l h) (simp (sym is-field, sym is-p, sym is-n, sym is-e, sym is-f, sym is-flags, sym judged))
+-- The answer from the outcome of the checks, and what is shown.
+pub entry-judged : (s : List ℕ) {o : Outcome} {e : Entry} → o ≡ firstOf (entryChecks s) → e ≡ shown s → entryOf s ≡ answer o e
+unfolding entryOf
+entry-judged s judged is-shown = rw (judged, is-shown)
 
 -- What an answer tells of the checks: accepted with what is shown, or refused by the first that applies.
 pub accepted-shown : (s : List ℕ) (e : Entry) → entryOf s ≡ Accepted e → (firstOf (entryChecks s) ≡ outcome.Accepted) × (e ≡ shown s)
@@ -80,7 +64,7 @@ pub record Passed (s : List ℕ) : Type 0 where
   pub runs : longRun (publicKeyAt s) (publicKeyLength s) (fekAt s) (fekLength s) (length s) ≡ false
 
 pub passed : (s : List ℕ) → firstOf (entryChecks s) ≡ outcome.Accepted → Passed s
-unfolding entryChecks layoutChecks
+unfolding entryChecks itemChecks runChecks
 passed s e =
     let p = accepted-pass (entryChecks s) e in
     let item = p .1 .1 .1 in
@@ -99,6 +83,16 @@ passed s e =
     }
 
 pub passes : (s : List ℕ) → Passed s → firstOf (entryChecks s) ≡ outcome.Accepted
-unfolding entryChecks layoutChecks
+unfolding entryChecks itemChecks runChecks
 passes s p =
     pass-accepted (entryChecks s) (p .limit, (p .head, (p .length-is, (p .own-length, (p .whole, (p .item-end, (p .fek-some, (p .fek, (p .apart, (p .runs, tt))))))))))
+
+-- Each part lies inside the entry.
+pub part-inside : (s : List ℕ) (which : EntryPart) → entrySpan s which .at + entrySpan s which .len ≤ length s
+unfolding entryOf unlessRefused spanOf shown
+part-inside s which = told (firstOf (entryChecks s)) refl which
+  where
+    told : (o : Outcome) → firstOf (entryChecks s) ≡ o → (which : EntryPart) → entrySpan s which .at + entrySpan s which .len ≤ length s
+    told outcome.Accepted e Item = rw e (ltb-false _ _ (passed s e .item-end))
+    told outcome.Accepted e Fek = rw e (inside _ _ _ (passed s e .fek) .1)
+    told (outcome.Refused r) e which = rw e (omega arith)

@@ -1,7 +1,11 @@
 -- Laws of the layout's tests: each fails exactly where the plain fact holds.
-use Rattle.lemmas.proofs.Basics.{ℕ, _+_, _-_, _≤_, _<_, min, max, arith, true, false, not, _||_, _⊎_, inl, inr, _≡_, refl, ap, _∙_, ltb, leb, lt-ltb, le-ltb, ltb-true, ltb-false, le-leb, leb-true}
+use Rattle.lemmas.proofs.Basics.{ℕ, _+_, _-_, _≤_, _<_, min, max, arith, min-comm, max-comm, Bool, true, false, cond, not, _||_, _⊎_, inl, inr, _≡_, refl, ap, ltb, leb, lt-ltb, le-ltb, ltb-false, le-leb, lt-leb, leb-true}
+use mathlib.Core.Bool.{or-comm}
 use Rattle.lemmas.proofs.Cases.{by-cases, or-false, false-or, not-false}
-use Rattle.keyentry.specs.Layout.{outside, overlap, runBefore, runBetween, runAfter, longRun}
+use Rattle.refusal.specs.declared.Outcome.the-variants.{Accepted, Refused}
+use Rattle.refusal.specs.declared.Refusal.the-variants.{Overlap, UnusedRun}
+use Rattle.refusal.specs.Chain.{firstOf}
+use Rattle.keyentry.specs.Layout.{outside, overlap, runBefore, runBetween, runAfter, longRun, runChecks}
 
 pub inside : (p n L : ℕ) → outside p n L ≡ false → (20 ≤ p) × (p + n ≤ L)
 unfolding outside
@@ -38,25 +42,43 @@ pub no-long-run : (p n f e L : ℕ) → runBefore p f ≤ 8 → runBetween p n f
 unfolding longRun
 no-long-run p n f e L a b c = false-or (le-ltb 8 _ a) (false-or (le-ltb 8 _ b) (le-ltb 8 _ c))
 
--- one long run is enough
-pub long-before : (p n f e L : ℕ) → 28 < min p f → longRun p n f e L ≡ true
-unfolding longRun
-long-before p n f e L h = rw (lt-ltb 8 (runBefore p f) (omega arith))
+-- the unused runs where the items (p, n) and (f, e) stand in this order
+pub ordered : (p n f e L : ℕ) → p + n ≤ f → (runBefore p f ≡ p - 20) × (runBetween p n f e ≡ f - (p + n)) × (runAfter p n f e L ≡ L - (f + e))
+ordered p n f e L order =
+    let first : min p f ≡ p = omega arith in
+    let last : max p f ≡ f = omega arith in
+    let first-end : min (p + n) (f + e) ≡ p + n = omega arith in
+    let last-end : max (p + n) (f + e) ≡ f + e = omega arith in
+    (rw first, rw (last, first-end), rw last-end)
 
-pub long-between : (p n f e L : ℕ) → 8 < runBetween p n f e → longRun p n f e L ≡ true
-unfolding longRun
-long-between p n f e L h = rw (lt-ltb 8 (runBetween p n f e) h) (by-cases (λ t. t || true ≡ true) (ltb 8 (runBefore p f)) (λ _. refl) (λ _. refl))
+-- Which of the two is called the item does not matter.
+pub runs-turned : (p n f e L : ℕ) → firstOf (runChecks f e p n L) ≡ firstOf (runChecks p n f e L)
+unfolding runChecks overlap longRun
+runs-turned p n f e L = rw (or-comm (leb (f + e) p) (leb (p + n) f), min-comm f p, max-comm f p, min-comm (f + e) (p + n), max-comm (f + e) (p + n))
 
--- the last run decides where the others are short; m stands 8 bytes past the last end
-past-end : (a b : ℕ) → max (a + 8) (b + 8) ≡ max a b + 8
-past-end a b = omega arith
+-- 9 by the three runs in turn, where the items stand in this order.
+module _ (p n f e L : ℕ) (order : p + n ≤ f) where
+  long-is : longRun p n f e L ≡ ltb 8 (p - 20) || (ltb 8 (f - (p + n)) || ltb 8 (L - (f + e)))
+  unfolding longRun
+  long-is = let o = ordered p n f e L order in rw (o .0, o .1, o .2)
 
-run-to : (x m L : ℕ) → m ≡ x + 8 → ltb 8 (L - x) ≡ ltb m L
-run-to x m L e =
-    by-cases (λ t. ltb 8 (L - x) ≡ t) (ltb m L)
-    (λ q. lt-ltb 8 (L - x) (omega (arith, ltb-true m L q)))
-    (λ q. le-ltb 8 (L - x) (omega (arith, ltb-false m L q)))
+  runs-are : firstOf (runChecks p n f e L) ≡ cond (ltb 8 (p - 20) || (ltb 8 (f - (p + n)) || ltb 8 (L - (f + e)))) (Refused UnusedRun) Accepted
+  unfolding runChecks firstOf
+  runs-are = rw (item-first p n f e order, long-is)
 
-pub last-run : (p n f e L m : ℕ) → min p f ≤ 28 → runBetween p n f e ≤ 8 → m ≡ max (p + n + 8) (f + e + 8) → longRun p n f e L ≡ ltb m L
-unfolding longRun
-last-run p n f e L m a b past = rw (le-ltb 8 (runBefore p f) (omega arith), le-ltb 8 (runBetween p n f e) b) (run-to (max (p + n) (f + e)) m L (past ∙ past-end (p + n) (f + e)))
+  pub run-before : 28 < p → firstOf (runChecks p n f e L) ≡ Refused UnusedRun
+  run-before h = rw (runs-are, lt-ltb 8 (p - 20) (omega arith))
+
+  pub run-between : p ≤ 28 → p + n + 8 < f → firstOf (runChecks p n f e L) ≡ Refused UnusedRun
+  run-between b h = rw (runs-are, le-ltb 8 (p - 20) (omega arith), lt-ltb 8 (f - (p + n)) (omega arith))
+
+  pub run-after : p ≤ 28 → f ≤ p + n + 8 → f + e + 8 < L → firstOf (runChecks p n f e L) ≡ Refused UnusedRun
+  run-after b m h = rw (runs-are, le-ltb 8 (p - 20) (omega arith), le-ltb 8 (f - (p + n)) (omega arith), lt-ltb 8 (L - (f + e)) (omega arith))
+
+  pub runs-short : p ≤ 28 → f ≤ p + n + 8 → L ≤ f + e + 8 → firstOf (runChecks p n f e L) ≡ Accepted
+  runs-short b m h = rw (runs-are, le-ltb 8 (p - 20) (omega arith), le-ltb 8 (f - (p + n)) (omega arith), le-ltb 8 (L - (f + e)) (omega arith))
+
+-- Neither stands before the other.
+pub run-overlap : (p n f e L : ℕ) → f < p + n → p < f + e → firstOf (runChecks p n f e L) ≡ Refused Overlap
+unfolding runChecks overlap firstOf
+run-overlap p n f e L a b = rw (lt-leb (p + n) f a, lt-leb (f + e) p b)

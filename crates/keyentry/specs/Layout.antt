@@ -45,27 +45,24 @@ runBetween p n f e = max p f - min (p + n) (f + e)
 abbrev pub runAfter : ℕ → ℕ → ℕ → ℕ → ℕ → ℕ
 runAfter p n f e L = L - max (p + n) (f + e)
 
--- 9 if any of them is over 8
+-- any of them is over 8
 unfoldable pub longRun : ℕ → ℕ → ℕ → ℕ → ℕ → Bool
 longRun p n f e L = ltb 8 (runBefore p f) || (ltb 8 (runBetween p n f e) || ltb 8 (runAfter p n f e L))
 
--- With entry length L, Length field len, item (p, n), FEK (f, e):
-unfoldable pub layoutChecks : ℕ → ℕ → ℕ → ℕ → ℕ → ℕ → List Check
-layoutChecks L len p n f e =
-    -- 3 unless Length = L
-    (not (eqb len L) ⇒ LengthsDisagree)
-    -- 6 if p < 20 or p+4 > L
-    ∷ (outside p 4 L ⇒ Misplaced)
+-- 8, and 9 if any of the three runs is over 8
+unfoldable pub runChecks : ℕ → ℕ → ℕ → ℕ → ℕ → List Check
+runChecks p n f e L = (overlap p n f e ⇒ Overlap) ∷ (longRun p n f e L ⇒ UnusedRun) ∷ []
+
+-- the checks behind the item's own length: with entry length L, item (p, n), FEK (f, e)
+unfoldable pub itemChecks : ℕ → ℕ → ℕ → ℕ → ℕ → List Check
+itemChecks p n f e L =
     -- 7 if n < 4
-    ∷ (ltb n 4 ⇒ EmptyItem)
+    (ltb n 4 ⇒ EmptyItem)
     -- 6 if p+n > L
     ∷ (ltb L (p + n) ⇒ Misplaced)
     -- 7 if e = 0
     ∷ (eqb e 0 ⇒ EmptyItem)
     -- 6 if f < 20 or f+e > L
     ∷ (outside f e L ⇒ Misplaced)
-    -- 8 unless p+n <= f or f+e <= p
-    ∷ (overlap p n f e ⇒ Overlap)
-    -- 9 if any of the three runs is over 8
-    ∷ (longRun p n f e L ⇒ UnusedRun)
-    ∷ []
+    -- 8 unless p+n <= f or f+e <= p; 9 if any of the three runs (before, between, after) is over 8
+    ∷ runChecks p n f e L

@@ -1,10 +1,10 @@
 -- Document 01, "Key List Entry and list": what the reader answers.
 use Prim.Native.Nat.{ℕ}
 use mathlib.Core.List.{List, _∷_}
-use mathlib.Core.Bool.{cond}
+use mathlib.Core.Bool.{cond, not}
 use lib.Dec.{ltb, eqb}
 use lib.ListN.{length}
-use Rattle.refusal.specs.declared.Refusal.the-variants.{TooLong, Short}
+use Rattle.refusal.specs.declared.Refusal.the-variants.{TooLong, Short, LengthsDisagree, Misplaced}
 use Rattle.refusal.specs.Chain.{Check, _⇒_, firstOf, unlessRefused}
 use Rattle.refusal.specs.Number.{numberOf}
 use Rattle.wire.specs.declared.Span.{Span}
@@ -15,15 +15,19 @@ use Rattle.keyentry.specs.declared.Entry.{Entry}
 use Rattle.keyentry.specs.declared.EntryRead.{EntryRead}
 use Rattle.keyentry.specs.declared.EntryRead.the-variants.{Accepted, Refused}
 use Rattle.keyentry.specs.declared.EntryPart.{EntryPart}
-use Rattle.keyentry.specs.declared.EntryPart.the-variants.{PublicKey, Fek}
-use Rattle.keyentry.specs.Layout.{lengthField, publicKeyAt, publicKeyLength, fekAt, fekLength, flagsOf, layoutChecks}
+use Rattle.keyentry.specs.declared.EntryPart.the-variants.{Item, Fek}
+use Rattle.keyentry.specs.Layout.{lengthField, publicKeyAt, publicKeyLength, fekAt, fekLength, flagsOf, outside, itemChecks}
 
--- 1, 2, then the layout's checks
 unfoldable pub entryChecks : List ℕ → List Check
 entryChecks s =
+    -- 1, 2
     (ltb 65535 (length s) ⇒ TooLong)
     ∷ (ltb (length s) 20 ⇒ Short)
-    ∷ layoutChecks (length s) (lengthField s) (publicKeyAt s) (publicKeyLength s) (fekAt s) (fekLength s)
+    -- 3 unless Length = L
+    ∷ (not (eqb (lengthField s) (length s)) ⇒ LengthsDisagree)
+    -- 6 if p < 20 or p+4 > L
+    ∷ (outside (publicKeyAt s) 4 (length s) ⇒ Misplaced)
+    ∷ itemChecks (publicKeyAt s) (publicKeyLength s) (fekAt s) (fekLength s) (length s)
 
 -- the head's numbers and the items' places
 unfoldable pub shown : List ℕ → Entry
@@ -53,7 +57,7 @@ entryValues (Refused r) = record { flags = 0; item = record { at = 0; len = 0 };
 
 -- where an item stands; 0 and 0 on a refusal
 unfoldable pub spanOf : EntryRead → EntryPart → Span
-spanOf (Accepted e) PublicKey = e .item
+spanOf (Accepted e) Item = e .item
 spanOf (Accepted e) Fek = e .fek
 spanOf (Refused r) which = record { at = 0; len = 0 }
 

@@ -1,17 +1,17 @@
 // Document 01, "Key List Entry and list": the Key List Entry (MS-EFSR 2.2.2.1.2), read and written.
 ghost use mathlib.Core.Path.{_≡_};
-ghost use Prim.Native.Nat.{_+_, _≤_, min, max};
+ghost use Prim.Native.Nat.{ℕ, _+_, _≤_};
 ghost use mathlib.Core.Bool.{_||_};
+ghost use lib.Dec.{ltb};
 ghost use lib.ListN.{length};
 ghost use Rattle.refusal.specs.Chain.{firstOf};
-ghost use Rattle.wire.specs.Parts.{startOf, onto};
-ghost use Rattle.records.specs.Writing.{writtenOf, outputOf};
-ghost use Rattle.keyentry.specs.Layout.{outside, overlap, longRun, layoutChecks};
-ghost use Rattle.keyentry.specs.Reading.{entryOf, algorithmOf, spanOf, entrySpan, entryPart};
-ghost use Rattle.keyentry.specs.Writing.{entryLength, entryBytes, writeChecks};
+ghost use Rattle.wire.specs.Parts.{onto};
+ghost use Rattle.records.specs.Writing.{outputOf};
+ghost use Rattle.keyentry.specs.Layout.{outside, runChecks, itemChecks};
+ghost use Rattle.keyentry.specs.Reading.{entryChecks, shown, entryOf, algorithmOf, spanOf, entrySpan, entryPart};
+ghost use Rattle.keyentry.specs.Writing.{entryLength, entryBytes, writeChecks, entryWritten};
 use records::LIMIT;
 use records::Written;
-use records::fitted;
 use records::grown;
 use refusal::Outcome;
 use refusal::Refusal;
@@ -34,13 +34,15 @@ pub enum Algorithm {
     Unsupported,
 }
 
+// What reading an entry answers.
 pub enum EntryRead {
     Accepted(Entry),
     Refused(Refusal),
 }
 
+// The parts of an entry.
 pub enum EntryPart {
-    PublicKey,
+    Item,
     Fek,
 }
 
@@ -58,47 +60,66 @@ impl Entry {
     }
 }
 
-// The entry that s is, or the refusal.
-pub fn read(s: &[u8]) -> EntryRead
-    ensures { λ r. ⌜ r ≡ entryOf (now (s .entry)) ⌝ }
-{
-    if LIMIT < s.len() {
-        return EntryRead::Refused(Refusal::TooLong);
-    }
-    if s.len() < 20 {
-        return EntryRead::Refused(Refusal::Short);
-    }
-    let p = le32_at(s, 4);
-    let n = le32_at(s, p as usize);
-    let e = le32_at(s, 8);
-    let f = le32_at(s, 12);
-    let flags = le32_at(s, 16);
-    match judge(s.len(), le32_at(s, 0), p, n, f, e) {
-        Outcome::Accepted => EntryRead::Accepted(Entry {
-            flags,
-            item: Span {
-                at: p as usize,
-                len: n as usize,
+impl EntryRead {
+    // Where a part stands: each part of a refused entry is empty at 0.
+    pub fn span(self, which: EntryPart) -> Span
+        ensures { λ r. ⌜ r ≡ spanOf self which ⌝ }
+    {
+        match self {
+            EntryRead::Accepted(entry) => match which {
+                EntryPart::Item => entry.item,
+                EntryPart::Fek => entry.fek,
             },
-            fek: Span {
-                at: f as usize,
-                len: e as usize,
-            },
-        }),
-        Outcome::Refused(refusal) => EntryRead::Refused(refusal),
+            EntryRead::Refused(_) => Span { at: 0, len: 0 },
+        }
     }
 }
 
-// The checks after 1 and 2, on an entry of len bytes with the Length field `field`, item (p, n) and FEK (f, e).
-fn judge(len: usize, field: u32, p: u32, n: u32, f: u32, e: u32) -> Outcome
-    ensures { λ r. ⌜ r ≡ firstOf (layoutChecks len field p n f e) ⌝ }
+// What an entry shows, or its refusal.
+pub fn read(s: &[u8]) -> EntryRead
+    ensures { λ r. ⌜ r ≡ entryOf (now (s .entry)) ⌝ }
 {
-    if field as usize != len {
+    match judge(s) {
+        Outcome::Accepted => {
+            return EntryRead::Accepted(shown(s));
+        }
+        Outcome::Refused(refusal) => {
+            return EntryRead::Refused(refusal);
+        }
+    }
+}
+
+// The checks, in document 01's order; a number is read just before its check.
+fn judge(s: &[u8]) -> Outcome
+    ensures { λ r. ⌜ r ≡ firstOf (entryChecks (now (s .entry))) ⌝ }
+{
+    let len = s.len();
+    if LIMIT < len {
+        return Outcome::Refused(Refusal::TooLong);
+    }
+    if len < 20 {
+        return Outcome::Refused(Refusal::Short);
+    }
+    if le32_at(s, 0) as usize != len {
         return Outcome::Refused(Refusal::LengthsDisagree);
     }
+    let p = le32_at(s, 4);
     if is_outside(p, 4, len) {
         return Outcome::Refused(Refusal::Misplaced);
     }
+    judge_items(
+        p,
+        le32_at(s, p as usize),
+        le32_at(s, 12),
+        le32_at(s, 8),
+        len,
+    )
+}
+
+// The checks behind the item's own length, n, which is read only where it lies inside: item (p, n), FEK (f, e).
+fn judge_items(p: u32, n: u32, f: u32, e: u32, len: usize) -> Outcome
+    ensures { λ r. ⌜ r ≡ firstOf (itemChecks p n f e len) ⌝ }
+{
     if n < 4 {
         return Outcome::Refused(Refusal::EmptyItem);
     }
@@ -111,13 +132,7 @@ fn judge(len: usize, field: u32, p: u32, n: u32, f: u32, e: u32) -> Outcome
     if is_outside(f, e, len) {
         return Outcome::Refused(Refusal::Misplaced);
     }
-    if do_overlap(p, n, f, e) {
-        return Outcome::Refused(Refusal::Overlap);
-    }
-    if has_long_run(p, n, f, e, len) {
-        return Outcome::Refused(Refusal::UnusedRun);
-    }
-    Outcome::Accepted
+    judge_runs(p, n, f, e, len)
 }
 
 // An item of n bytes at p does not lie in the Data Fields of an entry of len bytes.
@@ -127,97 +142,106 @@ fn is_outside(p: u32, n: u32, len: usize) -> bool
     either(p < 20, len < p as usize + n as usize)
 }
 
-fn do_overlap(p: u32, n: u32, f: u32, e: u32) -> bool
-    ensures { λ r. ⌜ r ≡ overlap p n f e ⌝ }
-{
-    !either(
-        p as usize + n as usize <= f as usize,
-        f as usize + e as usize <= p as usize,
-    )
-}
-
-// Before, between or after the two items more than 8 bytes are unused. `item` and `fek` stand 8 bytes past their ends.
-fn has_long_run(p: u32, n: u32, f: u32, e: u32, len: usize) -> bool
-    ensures { λ r. ⌜ r ≡ longRun p n f e len ⌝ }
-{
-    let item = p as usize + n as usize + 8;
-    let fek = f as usize + e as usize + 8;
-    if 28 < least(p as usize, f as usize) {
-        return true;
-    }
-    if fek < p as usize {
-        return true;
-    }
-    if item < f as usize {
-        return true;
-    }
-    greatest(item, fek) < len
-}
-
 fn either(a: bool, b: bool) -> bool
     ensures { λ r. ⌜ r ≡ a || b ⌝ }
 {
     a || b
 }
 
-fn least(a: usize, b: usize) -> usize
-    ensures { λ r. ⌜ r ≡ min a b ⌝ }
+// 8 and 9: one item ends before the other begins, and the runs around them are short.
+fn judge_runs(p: u32, n: u32, f: u32, e: u32, len: usize) -> Outcome
+    ensures { λ r. ⌜ r ≡ firstOf (runChecks p n f e len) ⌝ }
 {
-    if a < b { a } else { b }
+    if p as usize + n as usize <= f as usize {
+        return judge_ordered(p, n, f, e, len);
+    }
+    if f as usize + e as usize <= p as usize {
+        return judge_ordered(f, e, p, n, len);
+    }
+    Outcome::Refused(Refusal::Overlap)
 }
 
-fn greatest(a: usize, b: usize) -> usize
-    ensures { λ r. ⌜ r ≡ max a b ⌝ }
+// 9, where the item of n bytes at p ends before the one of e bytes at f begins.
+fn judge_ordered(p: u32, n: u32, f: u32, e: u32, len: usize) -> Outcome
+    requires { ⌜ p + n ≤ f ⌝ }
+    ensures { λ r. ⌜ r ≡ firstOf (runChecks p n f e len) ⌝ }
 {
-    if a < b { b } else { a }
+    if 28 < p {
+        return Outcome::Refused(Refusal::UnusedRun);
+    }
+    if p as usize + n as usize + 8 < f as usize {
+        return Outcome::Refused(Refusal::UnusedRun);
+    }
+    if f as usize + e as usize + 8 < len {
+        return Outcome::Refused(Refusal::UnusedRun);
+    }
+    Outcome::Accepted
 }
 
-// The bytes of an item: those very bytes of s, or the empty part on any refusal.
+// What an accepted entry shows.
+fn shown(s: &[u8]) -> Entry
+    ensures { λ r. ⌜ r ≡ shown (now (s .entry)) ⌝ }
+{
+    let p = le32_at(s, 4) as usize;
+    Entry {
+        flags: le32_at(s, 16),
+        item: Span {
+            at: p,
+            len: le32_at(s, p) as usize,
+        },
+        fek: Span {
+            at: le32_at(s, 12) as usize,
+            len: le32_at(s, 8) as usize,
+        },
+    }
+}
+
+// The bytes of a part: those very bytes of s, or the empty part on a refusal.
 pub fn part(s: &[u8], which: EntryPart) -> &[u8]
     ensures bytes { λ r. ⌜ now r ≡ entryPart (now (s .entry)) which ⌝ }
-    ensures place { λ r. ⌜ (r .ptr .0 ≡ s .entry .ptr .0) × (r .ptr .1 ≡ s .entry .ptr .1 + startOf (now (s .entry)) (entrySpan (now (s .entry)) which .at) (entrySpan (now (s .entry)) which .len)) ⌝ }
+    ensures place { λ r. ⌜ (r .ptr .0 ≡ s .entry .ptr .0) × (r .ptr .1 ≡ s .entry .ptr .1 + entrySpan (now (s .entry)) which .at) ⌝ }
 {
-    wire::part(s, span_of(read(s), which))
+    wire::part(s, read(s).span(which))
 }
 
-// Where an item stands, or 0 and 0 on a refusal.
-fn span_of(read: EntryRead, which: EntryPart) -> Span
-    ensures { λ r. ⌜ r ≡ spanOf read which ⌝ }
-{
-    match read {
-        EntryRead::Accepted(entry) => match which {
-            EntryPart::PublicKey => entry.item,
-            EntryPart::Fek => entry.fek,
-        },
-        EntryRead::Refused(_) => Span { at: 0, len: 0 },
-    }
-}
-
-// Writes an entry: 1, 7, 3, then as the reader would say of the bytes, which is 7 for an empty FEK; then 13.
+// Writes an entry: what is given is judged, then 13. A refusal keeps the output's bytes; success keeps those behind the record.
 pub fn write(out: &mut [u8], flags: u32, item: &[u8], fek: &[u8]) -> Written
-    ensures answer { λ r. ⌜ r ≡ writtenOf (firstOf (writeChecks flags (now (item .entry)) (now (fek .entry)))) (entryLength (now (item .entry)) (now (fek .entry))) (length (now (out .entry))) ⌝ }
+    ensures answer { λ r. ⌜ r ≡ entryWritten flags (now (item .entry)) (now (fek .entry)) (length (now (out .entry))) ⌝ }
     ensures output { λ r. ⌜ now (out .exit) ≡ outputOf r (entryBytes flags (now (item .entry)) (now (fek .entry))) (now (out .entry)) ⌝ }
 {
-    let len = grown(grown(20, item.len()), fek.len());
-    let checks = Outcome::Accepted
-        .refuse_if(LIMIT < len, Refusal::TooLong)
-        .refuse_if(item.len() < 4, Refusal::EmptyItem)
-        .refuse_if(
-            le32_at(item, 0) as usize != item.len(),
-            Refusal::LengthsDisagree,
-        )
-        .refuse_if(fek.len() == 0, Refusal::EmptyItem);
-    let answer = fitted(checks, len, out.len());
-    if let Written::Length(_) = answer {
-        put(out, flags, item, fek);
+    if let Outcome::Refused(refusal) = judge_given(item, fek) {
+        return Written::Refused(refusal);
     }
-    answer
+    let len = 20 + item.len() + fek.len();
+    if out.len() < len {
+        return Written::Refused(Refusal::NoRoom);
+    }
+    put(out, flags, item, fek);
+    Written::Length(len)
+}
+
+// 1, 7, 3, then as the reader would say of the bytes, which is 7 for an empty FEK. Flags never refuse.
+fn judge_given(item: &[u8], fek: &[u8]) -> Outcome
+    ensures { λ r. ⌜ ((flags : ℕ) → r ≡ firstOf (writeChecks flags (now (item .entry)) (now (fek .entry)))) ⌝ }
+{
+    if LIMIT < grown(grown(20, item.len()), fek.len()) {
+        return Outcome::Refused(Refusal::TooLong);
+    }
+    if item.len() < 4 {
+        return Outcome::Refused(Refusal::EmptyItem);
+    }
+    if le32_at(item, 0) as usize != item.len() {
+        return Outcome::Refused(Refusal::LengthsDisagree);
+    }
+    if fek.len() == 0 {
+        return Outcome::Refused(Refusal::EmptyItem);
+    }
+    Outcome::Accepted
 }
 
 // The head, and each body into its own part of the output.
 fn put(out: &mut [u8], flags: u32, item: &[u8], fek: &[u8])
-    requires { ⌜ entryLength (now item) (now fek) ≤ 65535 ⌝ }
-    requires { ⌜ entryLength (now item) (now fek) ≤ length (now out) ⌝ }
+    requires { ⌜ (entryLength (now item) (now fek) ≤ 65535) × (entryLength (now item) (now fek) ≤ length (now out)) ⌝ }
     ensures { λ _. ⌜ now (out .exit) ≡ onto (entryBytes flags (now (item .entry)) (now (fek .entry))) (now (out .entry)) ⌝ }
 {
     let at = 20 + item.len();

@@ -1,5 +1,5 @@
 -- Laws of a writer's answer.
-use Rattle.lemmas.proofs.Basics.{ℕ, _≤_, _<_, min, arith, List, _≡_, refl, sym, ap, _∙_, ltb, length, take, drop, le-ltb, ltb-true, ltb-false}
+use Rattle.lemmas.proofs.Basics.{ℕ, _≤_, _<_, min, arith, List, _≡_, refl, sym, ap, _∙_, ltb, length, take, drop, lt-ltb, le-ltb, ltb-true, ltb-false}
 use Rattle.refusal.specs.declared.Outcome.{Outcome}
 use Rattle.refusal.specs.declared.Outcome.the-variants as outcome
 use Rattle.refusal.specs.declared.Refusal.{Refusal}
@@ -27,10 +27,24 @@ pub accepted-written : (len room : ℕ) → len ≤ room → writtenOf outcome.A
 unfolding writtenOf refuseIf unlessRefused
 accepted-written len room h = rw (le-ltb room len h)
 
+pub no-room : (len room : ℕ) → room < len → writtenOf outcome.Accepted len room ≡ Refused NoRoom
+unfolding writtenOf refuseIf unlessRefused
+no-room len room h = rw (lt-ltb room len h)
+
 -- The reader's refusal is the writer's, whatever the room.
 pub refused-written : (r : Refusal) (len room : ℕ) → writtenOf (outcome.Refused r) len room ≡ Refused r
 unfolding writtenOf refuseIf unlessRefused
 refused-written r len room = refl
+
+-- What a writer answers, from what its judge told of the checks.
+pub refuses : {o checks : Outcome} {r : Refusal} (len room : ℕ) → o ≡ checks → o ≡ outcome.Refused r → Refused r ≡ writtenOf checks len room
+refuses {r = r} len room judged told = rw (← judged, told) (sym (refused-written r len room))
+
+pub lacks-room : {o checks : Outcome} (len room : ℕ) → o ≡ checks → o ≡ outcome.Accepted → room < len → Refused NoRoom ≡ writtenOf checks len room
+lacks-room len room judged told h = rw (← judged, told) (sym (no-room len room h))
+
+pub writes : {o checks : Outcome} (len room : ℕ) → o ≡ checks → o ≡ outcome.Accepted → len ≤ room → Length len ≡ writtenOf checks len room
+writes len room judged told h = rw (← judged, told) (sym (accepted-written len room h))
 
 -- What a writer accepted stands at the start of the output, and the rest is as it was.
 pub written-record : (checks : Outcome) (bytes out : List ℕ) (n : ℕ) → writtenOf checks (length bytes) (length out) ≡ Length n

@@ -69,11 +69,7 @@ fn written(line: Line, out: &mut [u8], room: usize, flags: u32, item: &[u8], fek
 // What is read of a record, and whether its parts are those that were written.
 fn read_back(line: Line, s: &[u8], item: &[u8], fek: &[u8]) -> Line {
     let read = entries::read(line, s);
-    let compared = cases::compared(
-        read.text(b" "),
-        keyentry::part(s, EntryPart::PublicKey),
-        item,
-    );
+    let compared = cases::compared(read.text(b" "), keyentry::part(s, EntryPart::Item), item);
     cases::compared(compared.text(b" "), keyentry::part(s, EntryPart::Fek), fek)
 }
 

@@ -1,6 +1,7 @@
 -- Laws of parts: those that lie inside, those that do not, parts of what was put together, and parts that follow each other.
 use Rattle.lemmas.proofs.Basics.{ℕ, zero, suc, _+_, _-_, _≤_, _<_, arith, cond, List, [], _∷_, _++_, append-assoc, _≡_, refl, sym, ap, _∙_, leb, length, getD, take, drop, length-append, length-drop, length-take-le, take-at, take-add, take-length, take-append-le, drop-at, drop-drop, drop-append-le, drop-append-seam, le-leb, lt-leb, leb-true, leb-false}
 use Rattle.lemmas.proofs.Cases.{by-cases, leb-same}
+use Rattle.wire.specs.declared.Span.{Span}
 use Rattle.wire.specs.Parts.{partOf, startOf, joined}
 
 pub part-in : (s : List ℕ) (at len : ℕ) → at + len ≤ length s → partOf s at len ≡ take len (drop at s)
@@ -114,3 +115,10 @@ pub joined-append : (pieces others : List (List ℕ)) → joined (pieces ++ othe
 unfolding joined
 joined-append [] others = refl
 joined-append (piece ∷ pieces) others = ap (λ t. piece ++ t) (joined-append pieces others) ∙ sym (append-assoc piece _ _)
+
+-- What `part` hands out for a span that lies inside: those bytes, at that place.
+pub handed-out : {B : Type 0} (s bytes : List ℕ) (block own : B) (place start : ℕ) {asked span : Span} → asked ≡ span → span .at + span .len ≤ length s
+    → (bytes ≡ partOf s (asked .at) (asked .len)) × ((block ≡ own) × (place ≡ start + startOf s (asked .at) (asked .len)))
+    → (bytes ≡ partOf s (span .at) (span .len)) × ((block ≡ own) × (place ≡ start + span .at))
+handed-out s bytes block own place start {span = span} is inside got =
+    (got .0 ∙ ap (λ t. partOf s (t .at) (t .len)) is, (got .1 .0, got .1 .1 ∙ ap (λ t. start + startOf s (t .at) (t .len)) is ∙ ap (λ n. start + n) (start-in s (span .at) (span .len) inside)))

@@ -1,48 +1,46 @@
--- `write`: the answer by the capped length is the definition's; where a length is answered, the entry was put.
-use Rattle.lemmas.proofs.Basics.{_+_, min, not, _≡_, refl, sym, ap, _∙_, eqb, length, needs}
-use Rattle.refusal.specs.Chain.{firstOf}
-use Rattle.refusal.proofs.Chains.{run, run-first, refuse-is}
-use Rattle.records.specs.Writing.{writtenOf, outputOf}
-use Rattle.keyentry.specs.Writing.{entryLength, writeChecks}
-use Rattle.keyentry.proofs.Writing.{partChecks, answer-is, written-fits}
+-- `write`: the judge's refusal, 13, or the entry's length and the entry put.
+use Rattle.lemmas.proofs.Basics.{_≤_, arith, refl, sym, ap, _∙_, length, needs}
+use Rattle.wire.proofs.Writing.{length-onto}
+use Rattle.records.specs.Writing.{outputOf}
+use Rattle.records.proofs.Laws.{refuses, lacks-room, writes}
+use Rattle.keyentry.specs.Writing.{entryLength}
+use Rattle.keyentry.proofs.Writing.{within-limit}
 use Rattle.keyentry.proofs.write.Statement.{statement}
 use Rattle.keyentry.proofs.write.Tie as tie
 
-answered : (c : tie.After-fitted) → (let a = c .before .before .before .before .before .before .before .before .before .before .before .args in
-    c .fitted .result ≡ writtenOf (firstOf (writeChecks (a .flags) (a .item .now) (a .fek .now))) (entryLength (a .item .now) (a .fek .now)) (length (a .out .now)))
-unfolding run
-answered c =
-    let sum = c .before .before .before .before .before .before in
-    let a = sum .before .before .before .before .before .args in
-    let len = sum .grown2 .result in
-    c .fitted .ensures
-    ∙ ap (λ o. writtenOf o len (length (a .out .now)))
-    (c .before .refuse-if4 .ensures ∙ refuse-is _ (c .before .before .refuse-if3 .ensures ∙ refuse-is _ (c .before .before .before .before .refuse-if2 .ensures ∙ refuse-is _ (c .before .before .before .before .before .refuse-if .ensures) refl) (ap (λ n. not (eqb n (length (a .item .now)))) (c .before .before .before .le32-at .ensures))) refl
-    ∙ run-first (partChecks len (a .item .now) (a .fek .now)))
-    ∙ answer-is (a .flags) (a .item .now) (a .fek .now) (length (a .out .now)) len
-    (sum .grown2 .ensures ∙ ap (λ n. min (n + length (a .fek .now)) 65536) (sum .before .grown .ensures))
-
-put-requires : tie.Need-put-requires
-put-requires c κs =
-    let f = c .before .before .before in
-    let a = f .before .before .before .before .before .before .before .before .before .before .before .args in
-    written-fits (a .flags) (a .item .now) (a .fek .now) _ _ (sym (answered f) ∙ c .before .enum-told .given .1)
-
 returns : tie.Need-returns
 unfolding outputOf
-returns c =
-    let p = c .before .before in
-    (answered (p .before .before .before .before), rw (p .before .before .enum-told .given .1) (p .put .ensures))
+returns c = let j = c .before .before .before in
+    (refuses _ _ (j .judge-given .ensures _) (c .before .refusal .given .1), refl)
+
+-- what was judged accepted is within the limit
+fits : (c : tie.After-enum-told) → (let a = c .before .before .before .before .before .before .args in entryLength (a .item .now) (a .fek .now) ≤ 65535)
+fits c = let j = c .before .before in
+    within-limit 0 _ _ (sym (j .judge-given .ensures 0) ∙ c .enum-told .given .1)
+
+add-len-2 : tie.Need-add-len-2
+add-len-2 c = omega (arith, fits c)
 
 returns-2 : tie.Need-returns-2
 unfolding outputOf
-returns-2 c = (answered (c .before .before), rw (c .enum-told2 .given .1))
+returns-2 c = let j = c .before .before .before in
+    (lacks-room _ _ (j .judge-given .ensures _) (c .before .enum-told .given .1) (c .if1 .taken), refl)
+
+put-requires : tie.Need-put-requires
+put-requires c κs = (fits (c .before .before), c .before .if1 .left)
+
+returns-3 : tie.Need-returns-3
+unfolding outputOf
+returns-3 c = let p = c .before .before in let e = p .before .before .before in
+    (writes _ _ (e .before .before .judge-given .ensures _) (e .enum-told .given .1) (p .before .before .if1 .left), p .put .ensures)
 
 pub write-spec : {M : Type 1} → statement M
 write-spec = tie.close (tie.spec
-    (λ c κs. search needs) (λ c κs. search needs) (λ c κs. search needs) (λ c κs. search needs) (λ c κs. search needs)
-    (λ c. search needs) (λ c κs. search needs) (λ c κs. search needs) (λ c κs. search needs) (λ c. search needs)
-    put-requires
-    (λ c. search needs) (λ c. search needs)
+    (λ c κs. search needs) (λ c. search needs)
     returns
-    returns-2)
+    (λ c. search needs) (λ c. search needs)
+    add-len-2
+    returns-2
+    put-requires
+    (λ c. search needs)
+    returns-3)
