@@ -15,7 +15,7 @@ accepted-well-formed s z =
     let p = passed s (accepted-checks s z) in
     record {
       limit = ltb-false 65535 (length s) (p .limit);
-      fixed = ltb-false (length s) 80 (p .fixed);
+      head = ltb-false (length s) 80 (p .head);
       marked = eqb-true _ _ (not-false _ (p .marked));
       indices = in-group _ (p .indices);
       lengths = eqb-true _ _ (not-false _ (p .lengths));
@@ -32,7 +32,7 @@ unfolding envelopeOf envelopeNumber unlessRefused
 well-formed-accepted s w =
     rw (passes s (record {
       limit = le-ltb 65535 (length s) (w .limit);
-      fixed = le-ltb (length s) 80 (w .fixed);
+      head = le-ltb (length s) 80 (w .head);
       marked = ap not (eq-eqb _ _ (w .marked));
       indices = not-above _ (w .indices);
       lengths = ap not (eq-eqb _ _ (w .lengths));

@@ -14,7 +14,7 @@ use Rattle.envelope.specs.declared.EnvelopePart.{EnvelopePart}
 use Rattle.envelope.specs.declared.EnvelopePart.the-variants.{Kdf, KdfParameters, Agreement, AgreementParameters, Domain, Forest, L1Key, L2Key}
 use Rattle.envelope.specs.declared.EnvelopeRead.the-variants.{Accepted}
 use Rattle.envelope.specs.Layout.{mark, headOf, lengthsOf, endAt, bodiesOf, bodySpan}
-use Rattle.envelope.specs.Reading.{envelopeChecks, shown, envelopeOf, envelopeNumber, spanOf, bodyAt, envelopeBody}
+use Rattle.envelope.specs.Reading.{envelopeChecks, shown, envelopeOf, envelopeNumber, spanOf, bodyAt, envelopePart}
 use Rattle.envelope.specs.WellFormed.{WellFormed}
 use Rattle.envelope.specs.Writing.{Given, givenLengths, envelopeBytes}
 use Rattle.envelope.proofs.Reading.{answer, accepted-shown, passed}
@@ -24,23 +24,23 @@ use Rattle.envelope.proofs.Writing.{Fit, bodyGiven, length-bytes, is-he
 -- the head's values, and each body byte for byte
 pub record ReadsBack (h : Head) (g : Given) : Type 0 where
   pub values : envelopeOf (envelopeBytes h g) ≡ Accepted (record { head = h; bodies = bodiesOf (givenLengths g) })
-  pub bodies : (which : EnvelopePart) → envelopeBody (envelopeBytes h g) which ≡ bodyGiven g which
+  pub bodies : (which : EnvelopePart) → envelopePart (envelopeBytes h g) which ≡ bodyGiven g which
 
-pub reads-back : (h : Head) (g : Given) → Fit h → firstOf (envelopeChecks (envelopeBytes h g)) ≡ outcome.Accepted → ReadsBack h g
-unfolding envelopeOf unlessRefused spanOf
+pub reads-back : (h : Head) (g : Given) → Fit h → firstOf (writeChecks h g) ≡ outcome.Accepted → ReadsBack h g
+unfolding writeChecks envelopeOf unlessRefused shown spanOf
 reads-back h g fit accepted =
-    let small : endAt (givenLengths g) ≤ 65535 = rw (length-bytes h g) at (ltb-false 65535 (length (envelopeBytes h g)) (passed _ accepted .limit)) in
+    let small = within-limit h g accepted in
     let read : envelopeOf (envelopeBytes h g) ≡ Accepted (record { head = h; bodies = bodiesOf (givenLengths g) }) =
-    ap (λ o. answer o (shown (envelopeBytes h g))) accepted ∙ rw (is-head h g fit small, are-lengths h g fit small)
+    rw (accepted, is-head h g fit small, are-lengths h g fit small)
     in
     record { values = read; bodies = λ which. rw read (body-is h g which) }
 
 -- A body of an accepted envelope stands where the lengths place it, and has its length.
-body-stands : (s : List ℕ) → envelopeNumber (envelopeOf s) ≡ 0 → (which : EnvelopePart) → envelopeBody s which ≡ bodyAt s (lengthsOf s) which
+body-stands : (s : List ℕ) → envelopeNumber (envelopeOf s) ≡ 0 → (which : EnvelopePart) → envelopePart s which ≡ bodyAt s which
 unfolding spanOf
 body-stands s z which = rw (accepted-shown s z)
 
-body-long : (s : List ℕ) → WellFormed s → (which : EnvelopePart) → length (bodyAt s (lengthsOf s) which) ≡ bodySpan (bodiesOf (lengthsOf s)) which .len
+body-long : (s : List ℕ) → WellFormed s → (which : EnvelopePart) → length (bodyAt s which) ≡ bodySpan (bodiesOf (lengthsOf s)) which .len
 unfolding bodySpan bodiesOf
 body-long s w Kdf = length-part s _ _ (omega (arith, w .lengths))
 body-long s w KdfParameters = length-part s _ _ (omega (arith, w .lengths))
@@ -55,14 +55,14 @@ body-long s w L2Key = length-part s _ _ (omega (arith, w .lengths))
 abbrev pub bodiesRead : List ℕ → Given
 bodiesRead s =
     record {
-      kdf = envelopeBody s Kdf;
-      kdfparams = envelopeBody s KdfParameters;
-      agreement = envelopeBody s Agreement;
-      agreeparams = envelopeBody s AgreementParameters;
-      domain = envelopeBody s Domain;
-      forest = envelopeBody s Forest;
-      l1key = envelopeBody s L1Key;
-      l2key = envelopeBody s L2Key;
+      kdf = envelopePart s Kdf;
+      «kdf_parameters» = envelopePart s KdfParameters;
+      agreement = envelopePart s Agreement;
+      «agreement_parameters» = envelopePart s AgreementParameters;
+      domain = envelopePart s Domain;
+      forest = envelopePart s Forest;
+      «l1_key» = envelopePart s L1Key;
+      «l2_key» = envelopePart s L2Key;
     }
 
 -- Writing what was read from an accepted envelope gives the same bytes.
@@ -71,13 +71,13 @@ unfolding envelopeBytes headOf lengthsOf bodySpan bodiesOf leBytes leOf
 rewritten s b z =
     let w = accepted-well-formed s z in
     let n = lengthsOf s in
-    let number : (at : ℕ) → at + 4 ≤ 80 → leBytes 4 (leAt 4 s at) ≡ partOf s at 4 = λ at h. le-part-back 4 s at b (omega (arith, w .fixed)) in
-    let size : (which : EnvelopePart) → length (envelopeBody s which) ≡ bodySpan (bodiesOf n) which .len = λ which. ap length (body-stands s z which) ∙ body-long s w which in
-    let stored : (which : EnvelopePart) (at : ℕ) → at + 4 ≤ 80 → bodySpan (bodiesOf n) which .len ≡ leAt 4 s at → leBytes 4 (length (envelopeBody s which)) ≡ partOf s at 4 =
+    let number : (at : ℕ) → at + 4 ≤ 80 → leBytes 4 (leAt 4 s at) ≡ partOf s at 4 = λ at h. le-part-back 4 s at b (omega (arith, w .head)) in
+    let size : (which : EnvelopePart) → length (envelopePart s which) ≡ bodySpan (bodiesOf n) which .len = λ which. ap length (body-stands s z which) ∙ body-long s w which in
+    let stored : (which : EnvelopePart) (at : ℕ) → at + 4 ≤ 80 → bodySpan (bodiesOf n) which .len ≡ leAt 4 s at → leBytes 4 (length (envelopePart s which)) ≡ partOf s at 4 =
     λ which at h e. ap (leBytes 4) (size which ∙ e) ∙ number at h
     in
     let marked : mark ≡ partOf s 4 4 = ap (leBytes 4) (sym (w .marked)) ∙ number 4 (omega arith) in
-    let lengths : List ℕ = 4 ∷ 4 ∷ 4 ∷ 4 ∷ 4 ∷ 4 ∷ 16 ∷ 4 ∷ 4 ∷ 4 ∷ 4 ∷ 4 ∷ 4 ∷ 4 ∷ 4 ∷ 4 ∷ 4 ∷ n .kdf ∷ n .kdfparams ∷ n .agreement ∷ n .agreeparams ∷ n .domain ∷ n .forest ∷ n .l1key ∷ n .l2key ∷ [] in
+    let lengths : List ℕ = 4 ∷ 4 ∷ 4 ∷ 4 ∷ 4 ∷ 4 ∷ 16 ∷ 4 ∷ 4 ∷ 4 ∷ 4 ∷ 4 ∷ 4 ∷ 4 ∷ 4 ∷ 4 ∷ 4 ∷ n .kdf ∷ n .«kdf_parameters» ∷ n .agreement ∷ n .«agreement_parameters» ∷ n .domain ∷ n .forest ∷ n .«l1_key» ∷ n .«l2_key» ∷ [] in
     let whole : total lengths ≡ length s = omega (arith, w .lengths) in
     (λ i. joined
     (number 0 (omega arith) i
@@ -86,7 +86,7 @@ rewritten s b z =
     ∷ number 12 (omega arith) i
     ∷ number 16 (omega arith) i
     ∷ number 20 (omega arith) i
-    ∷ root-bytes s 24 b (omega (arith, w .fixed)) i
+    ∷ root-bytes s 24 b (omega (arith, w .head)) i
     ∷ stored Kdf 40 (omega arith) refl i
     ∷ stored KdfParameters 44 (omega arith) refl i
     ∷ stored Agreement 48 (omega arith) refl i
@@ -110,7 +110,7 @@ rewritten s b z =
 
 -- Absent means absent: of an envelope with no L1 key the part handed out for it is empty, and so is the L2 key's of one with no L2 key.
 -- The part is a function of these bytes alone: there is no state to fall back on.
-pub absent : (s : List ℕ) (which : EnvelopePart) → bodySpan (bodiesOf (lengthsOf s)) which .len ≡ 0 → envelopeBody s which ≡ []
+pub absent : (s : List ℕ) (which : EnvelopePart) → bodySpan (bodiesOf (lengthsOf s)) which .len ≡ 0 → envelopePart s which ≡ []
 unfolding envelopeOf unlessRefused spanOf
 absent s which none = told (firstOf (envelopeChecks s))
   where

@@ -25,8 +25,8 @@ headOf s =
       flags = leAt 4 s 8;
       at = gkid (leAt 4 s 12) (leAt 4 s 16) (leAt 4 s 20);
       root = rootAt s 24;
-      privatelen = leAt 4 s 56;
-      publiclen = leAt 4 s 60;
+      «private_length» = leAt 4 s 56;
+      «public_length» = leAt 4 s 60;
     }
 
 -- "Bit 31 (LSB)" of dwFlags has the value 1: public
@@ -39,60 +39,60 @@ unfoldable pub lengthsOf : List ℕ → Lengths
 lengthsOf s =
     record {
       kdf = leAt 4 s 40;
-      kdfparams = leAt 4 s 44;
+      «kdf_parameters» = leAt 4 s 44;
       agreement = leAt 4 s 48;
-      agreeparams = leAt 4 s 52;
-      l1key = leAt 4 s 64;
-      l2key = leAt 4 s 68;
+      «agreement_parameters» = leAt 4 s 52;
+      «l1_key» = leAt 4 s 64;
+      «l2_key» = leAt 4 s 68;
       domain = leAt 4 s 72;
       forest = leAt 4 s 76;
     }
 
 -- bodies from 80: KDF algorithm, KDF parameters, agreement algorithm, agreement parameters, domain, forest, L1 key, L2 key
-abbrev pub kdfparamsAt : Lengths → ℕ
-kdfparamsAt n = 80 + n .kdf
+abbrev pub kdfParametersAt : Lengths → ℕ
+kdfParametersAt n = 80 + n .kdf
 
 abbrev pub agreementAt : Lengths → ℕ
-agreementAt n = kdfparamsAt n + n .kdfparams
+agreementAt n = kdfParametersAt n + n .«kdf_parameters»
 
-abbrev pub agreeparamsAt : Lengths → ℕ
-agreeparamsAt n = agreementAt n + n .agreement
+abbrev pub agreementParametersAt : Lengths → ℕ
+agreementParametersAt n = agreementAt n + n .agreement
 
 abbrev pub domainAt : Lengths → ℕ
-domainAt n = agreeparamsAt n + n .agreeparams
+domainAt n = agreementParametersAt n + n .«agreement_parameters»
 
 abbrev pub forestAt : Lengths → ℕ
 forestAt n = domainAt n + n .domain
 
-abbrev pub l1keyAt : Lengths → ℕ
-l1keyAt n = forestAt n + n .forest
+abbrev pub l1KeyAt : Lengths → ℕ
+l1KeyAt n = forestAt n + n .forest
 
-abbrev pub l2keyAt : Lengths → ℕ
-l2keyAt n = l1keyAt n + n .l1key
+abbrev pub l2KeyAt : Lengths → ℕ
+l2KeyAt n = l1KeyAt n + n .«l1_key»
 
 -- 80 plus the eight body lengths
 abbrev pub endAt : Lengths → ℕ
-endAt n = l2keyAt n + n .l2key
+endAt n = l2KeyAt n + n .«l2_key»
 
 unfoldable pub bodiesOf : Lengths → Bodies
 bodiesOf n =
     record {
       kdf = record { at = 80; len = n .kdf };
-      kdfparams = record { at = kdfparamsAt n; len = n .kdfparams };
+      «kdf_parameters» = record { at = kdfParametersAt n; len = n .«kdf_parameters» };
       agreement = record { at = agreementAt n; len = n .agreement };
-      agreeparams = record { at = agreeparamsAt n; len = n .agreeparams };
+      «agreement_parameters» = record { at = agreementParametersAt n; len = n .«agreement_parameters» };
       domain = record { at = domainAt n; len = n .domain };
       forest = record { at = forestAt n; len = n .forest };
-      l1key = record { at = l1keyAt n; len = n .l1key };
-      l2key = record { at = l2keyAt n; len = n .l2key };
+      «l1_key» = record { at = l1KeyAt n; len = n .«l1_key» };
+      «l2_key» = record { at = l2KeyAt n; len = n .«l2_key» };
     }
 
 unfoldable pub bodySpan : Bodies → EnvelopePart → Span
 bodySpan b Kdf = b .kdf
-bodySpan b KdfParameters = b .kdfparams
+bodySpan b KdfParameters = b .«kdf_parameters»
 bodySpan b Agreement = b .agreement
-bodySpan b AgreementParameters = b .agreeparams
+bodySpan b AgreementParameters = b .«agreement_parameters»
 bodySpan b Domain = b .domain
 bodySpan b Forest = b .forest
-bodySpan b L1Key = b .l1key
-bodySpan b L2Key = b .l2key
+bodySpan b L1Key = b .«l1_key»
+bodySpan b L2Key = b .«l2_key»

@@ -16,7 +16,6 @@ use Rattle.keys.specs.declared.Form.{Form}
 use Rattle.keys.specs.declared.Form.the-variants.{Keyless, L1Only, L2Only, Both, Public}
 use Rattle.keys.specs.KeyRule.{keyChecks}
 use Rattle.envelope.specs.declared.Head.{Head}
-use Rattle.envelope.specs.declared.Lengths.{Lengths}
 use Rattle.envelope.specs.declared.EnvelopePart.{EnvelopePart}
 use Rattle.envelope.specs.declared.EnvelopePart.the-variants.{Kdf, Agreement, Domain, Forest}
 use Rattle.envelope.specs.declared.Envelope.{Envelope}
@@ -25,16 +24,12 @@ use Rattle.envelope.specs.declared.EnvelopeRead.the-variants.{Accepted, 
 use Rattle.envelope.specs.Layout.{mark, headOf, isPublic, lengthsOf, endAt, bodiesOf, bodySpan}
 
 -- the bytes of a body, by the lengths of the head
-abbrev pub bodyAt : List ℕ → Lengths → EnvelopePart → List ℕ
-bodyAt s n which = partOf s (bodySpan (bodiesOf n) which .at) (bodySpan (bodiesOf n) which .len)
+abbrev pub bodyAt : List ℕ → EnvelopePart → List ℕ
+bodyAt s which = partOf s (bodySpan (bodiesOf (lengthsOf s)) which .at) (bodySpan (bodiesOf (lengthsOf s)) which .len)
 
--- 4, 5, and 3 unless 80 plus the eight body lengths is the record's length; of the number at the mark's place, the head and the lengths
-unfoldable pub headChecks : ℕ → ℕ → Head → Lengths → List Check
-headChecks len marked h n =
-    (not (eqb marked (leOf mark)) ⇒ WrongMark)
-    ∷ (indexAbove31 (h .at) ⇒ IndexAbove31)
-    ∷ (not (eqb (endAt n) len) ⇒ LengthsDisagree)
-    ∷ []
+-- 1, 2, 4
+unfoldable pub headChecks : List ℕ → List Check
+headChecks s = (ltb 65535 (length s) ⇒ TooLong) ∷ (ltb (length s) 80 ⇒ Short) ∷ (not (eqb (leAt 4 s 4) (leOf mark)) ⇒ WrongMark) ∷ []
 
 -- the rule of a text, for the four texts in body order
 unfoldable pub fourTexts : List ℕ → List ℕ → List ℕ → List ℕ → List Check
@@ -43,20 +38,23 @@ fourTexts kdf agreement domain forest = textChecks kdf ++ textChecks agreement +
 -- those, then the key rule for keys of these lengths
 unfoldable pub bodyChecks : Head → List ℕ → List ℕ → List ℕ → List ℕ → ℕ → ℕ → List Check
 bodyChecks h kdf agreement domain forest l1Len l2Len =
-    fourTexts kdf agreement domain forest ++ keyChecks (isPublic (h .flags)) (h .at) (h .publiclen) l1Len l2Len
+    fourTexts kdf agreement domain forest ++ keyChecks (isPublic (h .flags)) (h .at) (h .«public_length») l1Len l2Len
 
--- the checks after 1 and 2
-unfoldable pub layoutChecks : List ℕ → ℕ → Head → Lengths → List Check
-layoutChecks s marked h n =
-    headChecks (length s) marked h n ++ bodyChecks h (bodyAt s n Kdf) (bodyAt s n Agreement) (bodyAt s n Domain) (bodyAt s n Forest) (n .l1key) (n .l2key)
+-- 5; 3 unless 80 plus the eight body lengths is the record's length; 10 and 11 for the bodies
+unfoldable pub layoutChecks : List ℕ → List Check
+layoutChecks s =
+    (indexAbove31 (headOf s .at) ⇒ IndexAbove31)
+    ∷ (not (eqb (endAt (lengthsOf s)) (length s)) ⇒ LengthsDisagree)
+    ∷ bodyChecks (headOf s) (bodyAt s Kdf) (bodyAt s Agreement) (bodyAt s Domain) (bodyAt s Forest) (lengthsOf s .«l1_key») (lengthsOf s .«l2_key»)
 
 unfoldable pub envelopeChecks : List ℕ → List Check
-envelopeChecks s = (ltb 65535 (length s) ⇒ TooLong) ∷ (ltb (length s) 80 ⇒ Short) ∷ layoutChecks s (leAt 4 s 4) (headOf s) (lengthsOf s)
+envelopeChecks s = headChecks s ++ layoutChecks s
 
 -- what an accepted envelope shows
-abbrev pub shown : List ℕ → Envelope
+unfoldable pub shown : List ℕ → Envelope
 shown s = record { head = headOf s; bodies = bodiesOf (lengthsOf s) }
 
+-- what the reader answers
 unfoldable pub envelopeOf : List ℕ → EnvelopeRead
 envelopeOf s = unlessRefused Refused (firstOf (envelopeChecks s)) (Accepted (shown s))
 
@@ -74,14 +72,14 @@ abbrev pub envelopeSpan : List ℕ → EnvelopePart → Span
 envelopeSpan s which = spanOf (envelopeOf s) which
 
 -- the very bytes of a body, or the empty part on a refusal
-abbrev pub envelopeBody : List ℕ → EnvelopePart → List ℕ
-envelopeBody s which = partOf s (envelopeSpan s which .at) (envelopeSpan s which .len)
+abbrev pub envelopePart : List ℕ → EnvelopePart → List ℕ
+envelopePart s which = partOf s (envelopeSpan s which .at) (envelopeSpan s which .len)
 
 -- the form, by the keys present: none, PUBLIC for any public envelope with a key, else which of the two seed keys
 unfoldable pub formOf : Envelope → Form
 formOf e =
-    cond (eqb (e .bodies .l1key .len) 0 && eqb (e .bodies .l2key .len) 0) Keyless
+    cond (eqb (e .bodies .«l1_key» .len) 0 && eqb (e .bodies .«l2_key» .len) 0) Keyless
     (cond (isPublic (e .head .flags)) Public
-    (cond (eqb (e .bodies .l2key .len) 0) L1Only
-    (cond (eqb (e .bodies .l1key .len) 0) L2Only
+    (cond (eqb (e .bodies .«l2_key» .len) 0) L1Only
+    (cond (eqb (e .bodies .«l1_key» .len) 0) L2Only
     Both)))

@@ -15,7 +15,7 @@ use Rattle.envelope.specs.Reading.{bodyAt}
 pub record WellFormed (s : List ℕ) : Type 0 where
   -- document 01: at most 65,535 bytes, and the head is there
   pub limit : length s ≤ 65535
-  pub fixed : 80 ≤ length s
+  pub head : 80 ≤ length s
   -- the four fixed bytes
   pub marked : leAt 4 s 4 ≡ leOf mark
   -- L1 and L2 index MUST be a number between 0 and 31, inclusive
@@ -23,9 +23,9 @@ pub record WellFormed (s : List ℕ) : Type 0 where
   -- each length field MUST be the length of its body, and the bodies make up the rest of the record
   pub lengths : endAt (lengthsOf s) ≡ length s
   -- null-terminated Unicode strings
-  pub kdf : text.WellFormed (bodyAt s (lengthsOf s) Kdf)
-  pub agreement : text.WellFormed (bodyAt s (lengthsOf s) Agreement)
-  pub domain : text.WellFormed (bodyAt s (lengthsOf s) Domain)
-  pub forest : text.WellFormed (bodyAt s (lengthsOf s) Forest)
+  pub kdf : text.WellFormed (bodyAt s Kdf)
+  pub agreement : text.WellFormed (bodyAt s Agreement)
+  pub domain : text.WellFormed (bodyAt s Domain)
+  pub forest : text.WellFormed (bodyAt s Forest)
   -- the keys' lengths
-  pub keys : keys.WellFormed (isPublic (headOf s .flags)) (headOf s .at) (headOf s .publiclen) (lengthsOf s .l1key) (lengthsOf s .l2key)
+  pub keys : keys.WellFormed (isPublic (headOf s .flags)) (headOf s .at) (headOf s .«public_length») (lengthsOf s .«l1_key») (lengthsOf s .«l2_key»)

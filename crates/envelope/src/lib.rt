@@ -1,14 +1,14 @@
-// Document 01, "Group Key Envelope" (MS-GKDI 2.2.4): envelopes read and written.
+// Document 01, "Group Key Envelope" (MS-GKDI 2.2.4), read and written.
 ghost use mathlib.Core.Path.{_≡_};
-ghost use mathlib.Core.List.{_++_};
 ghost use Prim.Native.Nat.{_+_, _≤_, min};
 ghost use lib.ListN.{length};
 ghost use Rattle.refusal.specs.Chain.{firstOf};
-ghost use Rattle.wire.specs.Parts.{startOf, onto, joined};
+ghost use Rattle.wire.specs.Parts.{partOf, onto, joined};
+ghost use Rattle.records.specs.Writing.{outputOf};
 ghost use Rattle.keys.specs.KeyRule.{keyChecks};
 ghost use Rattle.envelope.specs.Layout.{headOf, isPublic, lengthsOf, endAt, bodiesOf, bodySpan};
-ghost use Rattle.envelope.specs.Reading.{fourTexts, layoutChecks, envelopeOf, spanOf, envelopeSpan, envelopeBody, formOf};
-ghost use Rattle.envelope.specs.Writing.{given, givenLengths, headPieces, envelopeBytes, Wrote};
+ghost use Rattle.envelope.specs.Reading.{headChecks, fourTexts, layoutChecks, envelopeChecks, shown, envelopeOf, spanOf, envelopeSpan, envelopePart, formOf};
+ghost use Rattle.envelope.specs.Writing.{given, envelopeLength, headPieces, envelopeBytes, writeChecks, envelopeWritten};
 use gkid::Gkid;
 use gkid::L0;
 use gkid::L1;
@@ -16,7 +16,6 @@ use gkid::L2;
 use keys::Form;
 use records::LIMIT;
 use records::Written;
-use records::fitted;
 use records::grown;
 use refusal::Outcome;
 use refusal::Refusal;
@@ -32,44 +31,35 @@ pub struct Head {
     pub flags: u32,
     pub at: Gkid,
     pub root: RootId,
-    pub privatelen: u32,
-    pub publiclen: u32,
-}
-
-// The eight body lengths, in the order in which the head has them.
-struct Lengths {
-    kdf: u32,
-    kdfparams: u32,
-    agreement: u32,
-    agreeparams: u32,
-    l1key: u32,
-    l2key: u32,
-    domain: u32,
-    forest: u32,
+    pub private_length: u32,
+    pub public_length: u32,
 }
 
 // Where the eight bodies stand, in their order.
 pub struct Bodies {
     pub kdf: Span,
-    pub kdfparams: Span,
+    pub kdf_parameters: Span,
     pub agreement: Span,
-    pub agreeparams: Span,
+    pub agreement_parameters: Span,
     pub domain: Span,
     pub forest: Span,
-    pub l1key: Span,
-    pub l2key: Span,
+    pub l1_key: Span,
+    pub l2_key: Span,
 }
 
+// An accepted envelope: the head's values, and where the bodies stand.
 pub struct Envelope {
     pub head: Head,
     pub bodies: Bodies,
 }
 
+// What reading an envelope answers.
 pub enum EnvelopeRead {
     Accepted(Envelope),
     Refused(Refusal),
 }
 
+// The parts of an envelope: its bodies.
 pub enum EnvelopePart {
     Kdf,
     KdfParameters,
@@ -81,6 +71,18 @@ pub enum EnvelopePart {
     L2Key,
 }
 
+// The eight body lengths, in the order in which the head has them.
+struct Lengths {
+    kdf: u32,
+    kdf_parameters: u32,
+    agreement: u32,
+    agreement_parameters: u32,
+    l1_key: u32,
+    l2_key: u32,
+    domain: u32,
+    forest: u32,
+}
+
 // "Bit 31 (LSB)" of dwFlags has the value 1.
 pub fn is_public(flags: u32) -> bool
     ensures { λ r. ⌜ r ≡ isPublic flags ⌝ }
@@ -88,24 +90,178 @@ pub fn is_public(flags: u32) -> bool
     flags % 2 == 1
 }
 
-// The envelope that s is, or the refusal.
+impl EnvelopeRead {
+    // Where a body stands: each body of a refused envelope is empty at 0.
+    pub fn span(self, which: EnvelopePart) -> Span
+        ensures { λ r. ⌜ r ≡ spanOf self which ⌝ }
+    {
+        match self {
+            EnvelopeRead::Accepted(envelope) => {
+                let bodies = envelope.bodies;
+                bodies.span(which)
+            }
+            EnvelopeRead::Refused(_) => Span { at: 0, len: 0 },
+        }
+    }
+}
+
+impl Bodies {
+    fn span(self, which: EnvelopePart) -> Span
+        ensures { λ r. ⌜ r ≡ bodySpan self which ⌝ }
+    {
+        match which {
+            EnvelopePart::Kdf => self.kdf,
+            EnvelopePart::KdfParameters => self.kdf_parameters,
+            EnvelopePart::Agreement => self.agreement,
+            EnvelopePart::AgreementParameters => self.agreement_parameters,
+            EnvelopePart::Domain => self.domain,
+            EnvelopePart::Forest => self.forest,
+            EnvelopePart::L1Key => self.l1_key,
+            EnvelopePart::L2Key => self.l2_key,
+        }
+    }
+}
+
+// The form that an envelope's keys make.
+pub fn form_of(envelope: Envelope) -> Form
+    ensures { λ r. ⌜ r ≡ formOf envelope ⌝ }
+{
+    let bodies = envelope.bodies;
+    let head = envelope.head;
+    if (bodies.l1_key.len == 0) & (bodies.l2_key.len == 0) {
+        return Form::Keyless;
+    }
+    if is_public(head.flags) {
+        return Form::Public;
+    }
+    if bodies.l2_key.len == 0 {
+        return Form::L1Only;
+    }
+    if bodies.l1_key.len == 0 {
+        return Form::L2Only;
+    }
+    Form::Both
+}
+
+// What an envelope shows, or its refusal.
 pub fn read(s: &[u8]) -> EnvelopeRead
     ensures { λ r. ⌜ r ≡ envelopeOf (now (s .entry)) ⌝ }
 {
+    match judge(s) {
+        Outcome::Accepted => {
+            return EnvelopeRead::Accepted(shown(s));
+        }
+        Outcome::Refused(refusal) => {
+            return EnvelopeRead::Refused(refusal);
+        }
+    }
+}
+
+// The checks, in document 01's order.
+fn judge(s: &[u8]) -> Outcome
+    ensures { λ r. ⌜ r ≡ firstOf (envelopeChecks (now (s .entry))) ⌝ }
+{
+    match judge_head(s) {
+        Outcome::Accepted => {
+            return judge_layout(s);
+        }
+        Outcome::Refused(refusal) => {
+            return Outcome::Refused(refusal);
+        }
+    }
+}
+
+// 1, 2 and 4.
+pub fn judge_head(s: &[u8]) -> Outcome
+    ensures { λ r. ⌜ r ≡ firstOf (headChecks (now (s .entry))) ⌝ }
+{
     if LIMIT < s.len() {
-        return EnvelopeRead::Refused(Refusal::TooLong);
+        return Outcome::Refused(Refusal::TooLong);
     }
     if s.len() < 80 {
-        return EnvelopeRead::Refused(Refusal::Short);
+        return Outcome::Refused(Refusal::Short);
     }
+    if le32_at(s, 4) != 0x4B53444B {
+        return Outcome::Refused(Refusal::WrongMark);
+    }
+    Outcome::Accepted
+}
+
+// 5, 3, and the rules of the bodies, which are looked at only where indices and lengths are sound.
+fn judge_layout(s: &[u8]) -> Outcome
+    ensures { λ r. ⌜ r ≡ firstOf (layoutChecks (now (s .entry))) ⌝ }
+{
     let head = head_of(s);
-    let lengths = lengths_of(s);
-    match judge(s, le32_at(s, 4), head, lengths) {
-        Outcome::Accepted => EnvelopeRead::Accepted(Envelope {
-            head,
-            bodies: bodies_of(lengths),
-        }),
-        Outcome::Refused(refusal) => EnvelopeRead::Refused(refusal),
+    let at = head.at;
+    if at.index_above_31() {
+        return Outcome::Refused(Refusal::IndexAbove31);
+    }
+    let n = lengths_of(s);
+    if end_of(n) != s.len() {
+        return Outcome::Refused(Refusal::LengthsDisagree);
+    }
+    match judge_texts(s, bodies_of(n)) {
+        Outcome::Accepted => {
+            return judge_keys(head, n.l1_key as usize, n.l2_key as usize);
+        }
+        Outcome::Refused(refusal) => {
+            return Outcome::Refused(refusal);
+        }
+    }
+}
+
+// Where the last body ends: 80 plus the eight lengths.
+fn end_of(n: Lengths) -> usize
+    ensures { λ r. ⌜ r ≡ endAt n ⌝ }
+{
+    80
+        + n.kdf as usize
+        + n.kdf_parameters as usize
+        + n.agreement as usize
+        + n.agreement_parameters as usize
+        + n.domain as usize
+        + n.forest as usize
+        + n.l1_key as usize
+        + n.l2_key as usize
+}
+
+// The rule of a text, for the four texts in body order.
+fn judge_texts(s: &[u8], bodies: Bodies) -> Outcome
+    ensures { λ r. ⌜ r ≡ firstOf (fourTexts (partOf (now (s .entry)) (bodies .kdf .at) (bodies .kdf .len)) (partOf (now (s .entry)) (bodies .agreement .at) (bodies .agreement .len)) (partOf (now (s .entry)) (bodies .domain .at) (bodies .domain .len)) (partOf (now (s .entry)) (bodies .forest .at) (bodies .forest .len))) ⌝ }
+{
+    if let Outcome::Refused(refusal) = text::judge(wire::part(s, bodies.kdf)) {
+        return Outcome::Refused(refusal);
+    }
+    if let Outcome::Refused(refusal) = text::judge(wire::part(s, bodies.agreement)) {
+        return Outcome::Refused(refusal);
+    }
+    if let Outcome::Refused(refusal) = text::judge(wire::part(s, bodies.domain)) {
+        return Outcome::Refused(refusal);
+    }
+    text::judge(wire::part(s, bodies.forest))
+}
+
+// The key rule, for keys of these lengths.
+fn judge_keys(head: Head, l1len: usize, l2len: usize) -> Outcome
+    ensures { λ r. ⌜ r ≡ firstOf (keyChecks (isPublic (head .flags)) (head .at) (head .«public_length») l1len l2len) ⌝ }
+{
+    let at = head.at;
+    keys::judge(
+        is_public(head.flags),
+        at,
+        head.public_length as usize,
+        l1len,
+        l2len,
+    )
+}
+
+// What an accepted envelope shows.
+fn shown(s: &[u8]) -> Envelope
+    ensures { λ r. ⌜ r ≡ shown (now (s .entry)) ⌝ }
+{
+    Envelope {
+        head: head_of(s),
+        bodies: bodies_of(lengths_of(s)),
     }
 }
 
@@ -121,8 +277,8 @@ fn head_of(s: &[u8]) -> Head
             l2: L2(le32_at(s, 20)),
         },
         root: RootId::at(s, 24),
-        privatelen: le32_at(s, 56),
-        publiclen: le32_at(s, 60),
+        private_length: le32_at(s, 56),
+        public_length: le32_at(s, 60),
     }
 }
 
@@ -132,11 +288,11 @@ fn lengths_of(s: &[u8]) -> Lengths
 {
     Lengths {
         kdf: le32_at(s, 40),
-        kdfparams: le32_at(s, 44),
+        kdf_parameters: le32_at(s, 44),
         agreement: le32_at(s, 48),
-        agreeparams: le32_at(s, 52),
-        l1key: le32_at(s, 64),
-        l2key: le32_at(s, 68),
+        agreement_parameters: le32_at(s, 52),
+        l1_key: le32_at(s, 64),
+        l2_key: le32_at(s, 68),
         domain: le32_at(s, 72),
         forest: le32_at(s, 76),
     }
@@ -146,29 +302,29 @@ fn lengths_of(s: &[u8]) -> Lengths
 fn bodies_of(n: Lengths) -> Bodies
     ensures { λ r. ⌜ r ≡ bodiesOf n ⌝ }
 {
-    let kdfparams = 80 + n.kdf as usize;
-    let agreement = kdfparams + n.kdfparams as usize;
-    let agreeparams = agreement + n.agreement as usize;
-    let domain = agreeparams + n.agreeparams as usize;
+    let kdf_parameters = 80 + n.kdf as usize;
+    let agreement = kdf_parameters + n.kdf_parameters as usize;
+    let agreement_parameters = agreement + n.agreement as usize;
+    let domain = agreement_parameters + n.agreement_parameters as usize;
     let forest = domain + n.domain as usize;
-    let l1key = forest + n.forest as usize;
-    let l2key = l1key + n.l1key as usize;
+    let l1_key = forest + n.forest as usize;
+    let l2_key = l1_key + n.l1_key as usize;
     Bodies {
         kdf: Span {
             at: 80,
             len: n.kdf as usize,
         },
-        kdfparams: Span {
-            at: kdfparams,
-            len: n.kdfparams as usize,
+        kdf_parameters: Span {
+            at: kdf_parameters,
+            len: n.kdf_parameters as usize,
         },
         agreement: Span {
             at: agreement,
             len: n.agreement as usize,
         },
-        agreeparams: Span {
-            at: agreeparams,
-            len: n.agreeparams as usize,
+        agreement_parameters: Span {
+            at: agreement_parameters,
+            len: n.agreement_parameters as usize,
         },
         domain: Span {
             at: domain,
@@ -178,189 +334,122 @@ fn bodies_of(n: Lengths) -> Bodies
             at: forest,
             len: n.forest as usize,
         },
-        l1key: Span {
-            at: l1key,
-            len: n.l1key as usize,
+        l1_key: Span {
+            at: l1_key,
+            len: n.l1_key as usize,
         },
-        l2key: Span {
-            at: l2key,
-            len: n.l2key as usize,
+        l2_key: Span {
+            at: l2_key,
+            len: n.l2_key as usize,
         },
     }
 }
 
-// Where the last body ends: 80 plus the eight lengths.
-fn end_of(n: Lengths) -> usize
-    ensures { λ r. ⌜ r ≡ endAt n ⌝ }
-{
-    80
-        + n.kdf as usize
-        + n.kdfparams as usize
-        + n.agreement as usize
-        + n.agreeparams as usize
-        + n.domain as usize
-        + n.forest as usize
-        + n.l1key as usize
-        + n.l2key as usize
-}
-
-// The checks after 1 and 2. The bodies are looked at only where mark, indices and lengths are sound.
-fn judge(s: &[u8], marked: u32, head: Head, n: Lengths) -> Outcome
-    ensures { λ r. ⌜ r ≡ firstOf (layoutChecks (now (s .entry)) marked head n) ⌝ }
-{
-    if marked != 0x4B53444B {
-        return Outcome::Refused(Refusal::WrongMark);
-    }
-    let at = head.at;
-    let sound = Outcome::Accepted
-        .refuse_if(at.index_above_31(), Refusal::IndexAbove31)
-        .refuse_if(end_of(n) != s.len(), Refusal::LengthsDisagree);
-    match sound {
-        Outcome::Refused(_) => sound,
-        Outcome::Accepted => {
-            let bodies = bodies_of(n);
-            judge_texts(
-                wire::part(s, bodies.kdf),
-                wire::part(s, bodies.agreement),
-                wire::part(s, bodies.domain),
-                wire::part(s, bodies.forest),
-            ).then(judge_keys(head, n.l1key as usize, n.l2key as usize))
-        }
-    }
-}
-
-// The rule of a text, for the four texts in body order.
-fn judge_texts(kdf: &[u8], agreement: &[u8], domain: &[u8], forest: &[u8]) -> Outcome
-    ensures { λ r. ⌜ r ≡ firstOf (fourTexts (now (kdf .entry)) (now (agreement .entry)) (now (domain .entry)) (now (forest .entry))) ⌝ }
-{
-    if let Outcome::Refused(refusal) = text::judge(kdf) {
-        return Outcome::Refused(refusal);
-    }
-    if let Outcome::Refused(refusal) = text::judge(agreement) {
-        return Outcome::Refused(refusal);
-    }
-    if let Outcome::Refused(refusal) = text::judge(domain) {
-        return Outcome::Refused(refusal);
-    }
-    text::judge(forest)
-}
-
-// The key rule, for keys of these lengths.
-fn judge_keys(head: Head, l1len: usize, l2len: usize) -> Outcome
-    ensures { λ r. ⌜ r ≡ firstOf (keyChecks (isPublic (head .flags)) (head .at) (head .publiclen) l1len l2len) ⌝ }
-{
-    let at = head.at;
-    keys::judge(
-        is_public(head.flags),
-        at,
-        head.publiclen as usize,
-        l1len,
-        l2len,
-    )
-}
-
-fn span_in(bodies: Bodies, which: EnvelopePart) -> Span
-    ensures { λ r. ⌜ r ≡ bodySpan bodies which ⌝ }
-{
-    match which {
-        EnvelopePart::Kdf => bodies.kdf,
-        EnvelopePart::KdfParameters => bodies.kdfparams,
-        EnvelopePart::Agreement => bodies.agreement,
-        EnvelopePart::AgreementParameters => bodies.agreeparams,
-        EnvelopePart::Domain => bodies.domain,
-        EnvelopePart::Forest => bodies.forest,
-        EnvelopePart::L1Key => bodies.l1key,
-        EnvelopePart::L2Key => bodies.l2key,
-    }
-}
-
-// The bytes of a body: those very bytes of s, or the empty part on any refusal and for an absent body.
+// The bytes of a body: those very bytes of s, or the empty part on a refusal and for an absent body.
 pub fn part(s: &[u8], which: EnvelopePart) -> &[u8]
-    ensures bytes { λ r. ⌜ now r ≡ envelopeBody (now (s .entry)) which ⌝ }
-    ensures place { λ r. ⌜ (r .ptr .0 ≡ s .entry .ptr .0) × (r .ptr .1 ≡ s .entry .ptr .1 + startOf (now (s .entry)) (envelopeSpan (now (s .entry)) which .at) (envelopeSpan (now (s .entry)) which .len)) ⌝ }
+    ensures bytes { λ r. ⌜ now r ≡ envelopePart (now (s .entry)) which ⌝ }
+    ensures place { λ r. ⌜ (r .ptr .0 ≡ s .entry .ptr .0) × (r .ptr .1 ≡ s .entry .ptr .1 + envelopeSpan (now (s .entry)) which .at) ⌝ }
 {
-    wire::part(s, span_of(read(s), which))
+    wire::part(s, read(s).span(which))
 }
 
-// The form that an envelope's keys make.
-pub fn form_of(envelope: Envelope) -> Form
-    ensures { λ r. ⌜ r ≡ formOf envelope ⌝ }
-{
-    let bodies = envelope.bodies;
-    let head = envelope.head;
-    if (bodies.l1key.len == 0) & (bodies.l2key.len == 0) {
-        return Form::Keyless;
-    }
-    if is_public(head.flags) {
-        return Form::Public;
-    }
-    if bodies.l2key.len == 0 {
-        return Form::L1Only;
-    }
-    if bodies.l1key.len == 0 {
-        return Form::L2Only;
-    }
-    Form::Both
-}
-
-// Where a body stands, or 0 and 0 on a refusal.
-pub fn span_of(read: EnvelopeRead, which: EnvelopePart) -> Span
-    ensures { λ r. ⌜ r ≡ spanOf read which ⌝ }
-{
-    match read {
-        EnvelopeRead::Accepted(envelope) => {
-            let bodies = envelope.bodies;
-            span_in(bodies, which)
-        }
-        EnvelopeRead::Refused(_) => Span { at: 0, len: 0 },
-    }
-}
-
-// Writes an envelope: what the reader would say of the bytes, then 13.
+// Writes an envelope: what is given is judged, then 13. A refusal keeps the output's bytes; success keeps those behind the record.
 pub fn write(
     out: &mut [u8],
     head: Head,
     kdf: &[u8],
-    kdfparams: &[u8],
+    kdf_parameters: &[u8],
     agreement: &[u8],
-    agreeparams: &[u8],
+    agreement_parameters: &[u8],
     domain: &[u8],
     forest: &[u8],
-    l1key: &[u8],
-    l2key: &[u8],
+    l1_key: &[u8],
+    l2_key: &[u8],
 ) -> Written
-    ensures { λ r. ⌜ Wrote head (given (now (kdf .entry)) (now (kdfparams .entry)) (now (agreement .entry)) (now (agreeparams .entry)) (now (domain .entry)) (now (forest .entry)) (now (l1key .entry)) (now (l2key .entry))) (now (out .entry)) r (now (out .exit)) ⌝ }
+    ensures answer { λ r. ⌜ r ≡ envelopeWritten head (given (now (kdf .entry)) (now («kdf_parameters» .entry)) (now (agreement .entry)) (now («agreement_parameters» .entry)) (now (domain .entry)) (now (forest .entry)) (now («l1_key» .entry)) (now («l2_key» .entry))) (length (now (out .entry))) ⌝ }
+    ensures output { λ r. ⌜ now (out .exit) ≡ outputOf r (envelopeBytes head (given (now (kdf .entry)) (now («kdf_parameters» .entry)) (now (agreement .entry)) (now («agreement_parameters» .entry)) (now (domain .entry)) (now (forest .entry)) (now («l1_key» .entry)) (now («l2_key» .entry)))) (now (out .entry)) ⌝ }
+{
+    if let Outcome::Refused(refusal) = judge_given(
+        head,
+        kdf,
+        kdf_parameters,
+        agreement,
+        agreement_parameters,
+        domain,
+        forest,
+        l1_key,
+        l2_key,
+    ) {
+        return Written::Refused(refusal);
+    }
+    let len = 80
+        + kdf.len()
+        + kdf_parameters.len()
+        + agreement.len()
+        + agreement_parameters.len()
+        + domain.len()
+        + forest.len()
+        + l1_key.len()
+        + l2_key.len();
+    if out.len() < len {
+        return Written::Refused(Refusal::NoRoom);
+    }
+    put(
+        out,
+        head,
+        kdf,
+        kdf_parameters,
+        agreement,
+        agreement_parameters,
+        domain,
+        forest,
+        l1_key,
+        l2_key,
+    );
+    Written::Length(len)
+}
+
+// What the reader would say of the bytes: of its refusals only 1, 5, 10 and 11 can occur.
+fn judge_given(
+    head: Head,
+    kdf: &[u8],
+    kdf_parameters: &[u8],
+    agreement: &[u8],
+    agreement_parameters: &[u8],
+    domain: &[u8],
+    forest: &[u8],
+    l1_key: &[u8],
+    l2_key: &[u8],
+) -> Outcome
+    ensures { λ r. ⌜ r ≡ firstOf (writeChecks head (given (now (kdf .entry)) (now («kdf_parameters» .entry)) (now (agreement .entry)) (now («agreement_parameters» .entry)) (now (domain .entry)) (now (forest .entry)) (now («l1_key» .entry)) (now («l2_key» .entry)))) ⌝ }
 {
     let first = capped(
         80,
         kdf.len(),
-        kdfparams.len(),
+        kdf_parameters.len(),
         agreement.len(),
-        agreeparams.len(),
+        agreement_parameters.len(),
     );
-    let len = capped(first, domain.len(), forest.len(), l1key.len(), l2key.len());
-    let at = head.at;
-    let checks = Outcome::Accepted
-        .refuse_if(LIMIT < len, Refusal::TooLong)
-        .refuse_if(at.index_above_31(), Refusal::IndexAbove31)
-        .then(judge_texts(kdf, agreement, domain, forest))
-        .then(judge_keys(head, l1key.len(), l2key.len()));
-    let answer = fitted(checks, len, out.len());
-    if let Written::Length(_) = answer {
-        put(
-            out,
-            head,
-            kdf,
-            kdfparams,
-            agreement,
-            agreeparams,
-            domain,
-            forest,
-            l1key,
-            l2key,
-        );
+    if LIMIT
+        < capped(
+            first,
+            domain.len(),
+            forest.len(),
+            l1_key.len(),
+            l2_key.len(),
+        )
+    {
+        return Outcome::Refused(Refusal::TooLong);
     }
-    answer
+    let at = head.at;
+    if at.index_above_31() {
+        return Outcome::Refused(Refusal::IndexAbove31);
+    }
+    text::judge(kdf)
+        .then(text::judge(agreement))
+        .then(text::judge(domain))
+        .then(text::judge(forest))
+        .then(judge_keys(head, l1_key.len(), l2_key.len()))
 }
 
 // A length and four more, or 65,536 where the sum is over the limit.
@@ -370,38 +459,49 @@ fn capped(len: usize, a: usize, b: usize, c: usize, d: usize) -> usize
     grown(grown(grown(grown(len, a), b), c), d)
 }
 
-// The head, and each body into its own part of the output.
+// The head, and each body into its own part of the output, by the writer of its kind.
 fn put(
     out: &mut [u8],
     head: Head,
     kdf: &[u8],
-    kdfparams: &[u8],
+    kdf_parameters: &[u8],
     agreement: &[u8],
-    agreeparams: &[u8],
+    agreement_parameters: &[u8],
     domain: &[u8],
     forest: &[u8],
-    l1key: &[u8],
-    l2key: &[u8],
+    l1_key: &[u8],
+    l2_key: &[u8],
 )
-    requires { ⌜ endAt (givenLengths (given (now kdf) (now kdfparams) (now agreement) (now agreeparams) (now domain) (now forest) (now l1key) (now l2key))) ≤ 65535 ⌝ }
-    requires { ⌜ endAt (givenLengths (given (now kdf) (now kdfparams) (now agreement) (now agreeparams) (now domain) (now forest) (now l1key) (now l2key))) ≤ length (now out) ⌝ }
-    ensures { λ _. ⌜ now (out .exit) ≡ onto (envelopeBytes head (given (now (kdf .entry)) (now (kdfparams .entry)) (now (agreement .entry)) (now (agreeparams .entry)) (now (domain .entry)) (now (forest .entry)) (now (l1key .entry)) (now (l2key .entry)))) (now (out .entry)) ⌝ }
+    requires { ⌜ (envelopeLength (given (now kdf) (now «kdf_parameters») (now agreement) (now «agreement_parameters») (now domain) (now forest) (now «l1_key») (now «l2_key»)) ≤ 65535) × (envelopeLength (given (now kdf) (now «kdf_parameters») (now agreement) (now «agreement_parameters») (now domain) (now forest) (now «l1_key») (now «l2_key»)) ≤ length (now out)) ⌝ }
+    ensures { λ _. ⌜ now (out .exit) ≡ onto (envelopeBytes head (given (now (kdf .entry)) (now («kdf_parameters» .entry)) (now (agreement .entry)) (now («agreement_parameters» .entry)) (now (domain .entry)) (now (forest .entry)) (now («l1_key» .entry)) (now («l2_key» .entry)))) (now (out .entry)) ⌝ }
 {
-    let first = 80 + kdf.len() + kdfparams.len() + agreement.len() + agreeparams.len();
-    let end = first + domain.len() + forest.len() + l1key.len() + l2key.len();
     let lengths = Lengths {
         kdf: kdf.len() as u32,
-        kdfparams: kdfparams.len() as u32,
+        kdf_parameters: kdf_parameters.len() as u32,
         agreement: agreement.len() as u32,
-        agreeparams: agreeparams.len() as u32,
-        l1key: l1key.len() as u32,
-        l2key: l2key.len() as u32,
+        agreement_parameters: agreement_parameters.len() as u32,
+        l1_key: l1_key.len() as u32,
+        l2_key: l2_key.len() as u32,
         domain: domain.len() as u32,
         forest: forest.len() as u32,
     };
+    let kdf_end = 80 + kdf.len();
+    let kdf_parameters_end = kdf_end + kdf_parameters.len();
+    let agreement_end = kdf_parameters_end + agreement.len();
+    let agreement_parameters_end = agreement_end + agreement_parameters.len();
+    let domain_end = agreement_parameters_end + domain.len();
+    let forest_end = domain_end + forest.len();
+    let l1_key_end = forest_end + l1_key.len();
+    let l2_key_end = l1_key_end + l2_key.len();
     put_head(&mut out[0..80], head, lengths);
-    put_bodies(&mut out[80..first], kdf, kdfparams, agreement, agreeparams);
-    put_bodies(&mut out[first..end], domain, forest, l1key, l2key);
+    text::put(&mut out[80..kdf_end], kdf);
+    put_parameters(&mut out[kdf_end..kdf_parameters_end], kdf_parameters);
+    text::put(&mut out[kdf_parameters_end..agreement_end], agreement);
+    put_parameters(&mut out[agreement_end..agreement_parameters_end], agreement_parameters);
+    text::put(&mut out[agreement_parameters_end..domain_end], domain);
+    text::put(&mut out[domain_end..forest_end], forest);
+    keys::put(&mut out[forest_end..l1_key_end], l1_key);
+    keys::put(&mut out[l1_key_end..l2_key_end], l2_key);
 }
 
 fn put_head(dst: &mut [u8], head: Head, n: Lengths)
@@ -420,13 +520,13 @@ fn put_head(dst: &mut [u8], head: Head, n: Lengths)
     ];
     let lengths = [
         n.kdf,
-        n.kdfparams,
+        n.kdf_parameters,
         n.agreement,
-        n.agreeparams,
-        head.privatelen,
-        head.publiclen,
-        n.l1key,
-        n.l2key,
+        n.agreement_parameters,
+        head.private_length,
+        head.public_length,
+        n.l1_key,
+        n.l2_key,
         n.domain,
         n.forest,
     ];
@@ -435,16 +535,9 @@ fn put_head(dst: &mut [u8], head: Head, n: Lengths)
     put_le32s(&mut dst[40..80], &lengths);
 }
 
-// Four bodies, one after the other, each into its own part.
-fn put_bodies(dst: &mut [u8], a: &[u8], b: &[u8], c: &[u8], d: &[u8])
-    requires { ⌜ length (now a) + length (now b) + length (now c) + length (now d) ≤ length (now dst) ⌝ }
-    ensures { λ _. ⌜ now (dst .exit) ≡ onto (((now (a .entry) ++ now (b .entry)) ++ now (c .entry)) ++ now (d .entry)) (now (dst .entry)) ⌝ }
+// Parameters written into the part of the output where they stand; their insides are not judged.
+fn put_parameters(dst: &mut [u8], parameters: &[u8])
+    ensures { λ _. ⌜ now (dst .exit) ≡ onto (now (parameters .entry)) (now (dst .entry)) ⌝ }
 {
-    let second = a.len() + b.len();
-    let third = second + c.len();
-    let end = third + d.len();
-    copy_into(&mut dst[0..a.len()], a);
-    copy_into(&mut dst[a.len()..second], b);
-    copy_into(&mut dst[second..third], c);
-    copy_into(&mut dst[third..end], d);
+    copy_into(dst, parameters);
 }

@@ -18,15 +18,15 @@ listAnswer r = record { refusal = listNumber r; count = listCount r; index = lis
 
 -- a step that shows no entry
 abbrev pub noEntry : ℕ → ℕ → ℕ → ℕ → ℕ → StepAnswer
-noEntry refusal found index nextat nextindex =
+noEntry refusal found index «next_at» «next_index» =
     record {
       refusal = refusal;
       found = found;
       index = index;
       algorithm = 0;
       flags = 0;
-      nextindex = nextindex;
-      nextat = nextat;
+      «next_index» = «next_index»;
+      «next_at» = «next_at»;
       at = 0;
       item = noPart;
       fek = noPart;
@@ -41,8 +41,8 @@ stepShown (Entry found) next =
       index = found .index;
       algorithm = algorithmCode (algorithmOf (found .entry .flags));
       flags = found .entry .flags;
-      nextindex = next .index;
-      nextat = next .at;
+      «next_index» = next .index;
+      «next_at» = next .at;
       at = found .at;
       item = partShown (found .entry .item);
       fek = partShown (found .entry .fek);

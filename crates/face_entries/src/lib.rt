@@ -38,8 +38,8 @@ pub struct StepAnswer {
     pub index: u32,
     pub algorithm: u32,
     pub flags: u32,
-    pub nextindex: u32,
-    pub nextat: usize,
+    pub next_index: u32,
+    pub next_at: usize,
     pub at: usize,
     pub item: Part,
     pub fek: Part,
@@ -99,8 +99,8 @@ pub fn step_answer(advance: Advance) -> StepAnswer
                 index: found.index,
                 algorithm: algorithm_code(entry.algorithm()),
                 flags: entry.flags,
-                nextindex: next.index,
-                nextat: next.at,
+                next_index: next.index,
+                next_at: next.at,
                 at: found.at,
                 item: to_part(entry.item),
                 fek: to_part(entry.fek),
@@ -112,8 +112,8 @@ pub fn step_answer(advance: Advance) -> StepAnswer
 }
 
 // A step that shows no entry.
-fn no_entry(refusal: u32, found: u32, index: u32, nextat: usize, nextindex: u32) -> StepAnswer
-    ensures { λ r. ⌜ r ≡ noEntry refusal found index nextat nextindex ⌝ }
+fn no_entry(refusal: u32, found: u32, index: u32, next_at: usize, next_index: u32) -> StepAnswer
+    ensures { λ r. ⌜ r ≡ noEntry refusal found index «next_at» «next_index» ⌝ }
 {
     StepAnswer {
         refusal,
@@ -121,8 +121,8 @@ fn no_entry(refusal: u32, found: u32, index: u32, nextat: usize, nextindex: u32)
         index,
         algorithm: 0,
         flags: 0,
-        nextindex,
-        nextat,
+        next_index,
+        next_at,
         at: 0,
         item: Part { at: 0, len: 0 },
         fek: Part { at: 0, len: 0 },

@@ -21,8 +21,8 @@ headShown h =
       flags = h .flags;
       at = identifierShown (h .at);
       root = rootShown (h .root);
-      privatelen = h .privatelen;
-      publiclen = h .publiclen;
+      «private_length» = h .«private_length»;
+      «public_length» = h .«public_length»;
     }
 
 abbrev pub headFrom : EnvelopeHead → Head
@@ -32,21 +32,21 @@ headFrom h =
       flags = h .flags;
       at = gkidFrom (h .at);
       root = rootIdFrom (h .root);
-      privatelen = h .privatelen;
-      publiclen = h .publiclen;
+      «private_length» = h .«private_length»;
+      «public_length» = h .«public_length»;
     }
 
 abbrev pub bodiesShown : Bodies → EnvelopeBodies
 bodiesShown b =
     record {
       kdf = partShown (b .kdf);
-      kdfparams = partShown (b .kdfparams);
+      «kdf_parameters» = partShown (b .«kdf_parameters»);
       agreement = partShown (b .agreement);
-      agreeparams = partShown (b .agreeparams);
+      «agreement_parameters» = partShown (b .«agreement_parameters»);
       domain = partShown (b .domain);
       forest = partShown (b .forest);
-      l1key = partShown (b .l1key);
-      l2key = partShown (b .l2key);
+      «l1_key» = partShown (b .«l1_key»);
+      «l2_key» = partShown (b .«l2_key»);
     }
 
 -- a refused envelope: its number, and zeros
@@ -62,19 +62,19 @@ noEnvelope refusal =
             flags = 0;
             at = noIdentifier;
             root = record { bytes = replicate 16 0 };
-            privatelen = 0;
-            publiclen = 0;
+            «private_length» = 0;
+            «public_length» = 0;
           };
       bodies =
           record {
             kdf = noPart;
-            kdfparams = noPart;
+            «kdf_parameters» = noPart;
             agreement = noPart;
-            agreeparams = noPart;
+            «agreement_parameters» = noPart;
             domain = noPart;
             forest = noPart;
-            l1key = noPart;
-            l2key = noPart;
+            «l1_key» = noPart;
+            «l2_key» = noPart;
           };
     }
 

@@ -23,21 +23,21 @@ pub struct EnvelopeHead {
     pub flags: u32,
     pub at: Identifier,
     pub root: RootBytes,
-    pub privatelen: u32,
-    pub publiclen: u32,
+    pub private_length: u32,
+    pub public_length: u32,
 }
 
 // Where the eight bodies stand.
 #[repr(C)]
 pub struct EnvelopeBodies {
     pub kdf: Part,
-    pub kdfparams: Part,
+    pub kdf_parameters: Part,
     pub agreement: Part,
-    pub agreeparams: Part,
+    pub agreement_parameters: Part,
     pub domain: Part,
     pub forest: Part,
-    pub l1key: Part,
-    pub l2key: Part,
+    pub l1_key: Part,
+    pub l2_key: Part,
 }
 
 // An envelope. Its form, by the keys present, is 0 for NOKEY, 1 for L1ONLY, 2 for L2ONLY, 3 for BOTH, 4 for PUBLIC.
@@ -58,8 +58,8 @@ pub fn head_from(given: EnvelopeHead) -> Head
         flags: given.flags,
         at: to_gkid(given.at),
         root: to_root(given.root),
-        privatelen: given.privatelen,
-        publiclen: given.publiclen,
+        private_length: given.private_length,
+        public_length: given.public_length,
     }
 }
 
@@ -90,8 +90,8 @@ fn head_answer(head: Head) -> EnvelopeHead
         flags: head.flags,
         at: to_identifier(head.at),
         root: to_bytes(head.root),
-        privatelen: head.privatelen,
-        publiclen: head.publiclen,
+        private_length: head.private_length,
+        public_length: head.public_length,
     }
 }
 
@@ -100,13 +100,13 @@ fn bodies_answer(bodies: Bodies) -> EnvelopeBodies
 {
     EnvelopeBodies {
         kdf: to_part(bodies.kdf),
-        kdfparams: to_part(bodies.kdfparams),
+        kdf_parameters: to_part(bodies.kdf_parameters),
         agreement: to_part(bodies.agreement),
-        agreeparams: to_part(bodies.agreeparams),
+        agreement_parameters: to_part(bodies.agreement_parameters),
         domain: to_part(bodies.domain),
         forest: to_part(bodies.forest),
-        l1key: to_part(bodies.l1key),
-        l2key: to_part(bodies.l2key),
+        l1_key: to_part(bodies.l1_key),
+        l2_key: to_part(bodies.l2_key),
     }
 }
 
@@ -128,18 +128,18 @@ fn no_envelope(refusal: u32) -> EnvelopeAnswer
                 l2: 0,
             },
             root: RootBytes { bytes: [0; 16] },
-            privatelen: 0,
-            publiclen: 0,
+            private_length: 0,
+            public_length: 0,
         },
         bodies: bodies_answer(Bodies {
             kdf: none,
-            kdfparams: none,
+            kdf_parameters: none,
             agreement: none,
-            agreeparams: none,
+            agreement_parameters: none,
             domain: none,
             forest: none,
-            l1key: none,
-            l2key: none,
+            l1_key: none,
+            l2_key: none,
         }),
     }
 }

@@ -26,27 +26,27 @@ pub extern "C" fn gw_envelope_write(
     out: &mut [u8],
     head: EnvelopeHead,
     kdf: &[u8],
-    kdfparams: &[u8],
+    kdf_parameters: &[u8],
     agreement: &[u8],
-    agreeparams: &[u8],
+    agreement_parameters: &[u8],
     domain: &[u8],
     forest: &[u8],
-    l1key: &[u8],
-    l2key: &[u8],
+    l1_key: &[u8],
+    l2_key: &[u8],
 ) -> WrittenAnswer
-    ensures answer { λ r. ⌜ r ≡ writtenAnswer (envelopeWritten (headFrom head) (given (now (kdf .entry)) (now (kdfparams .entry)) (now (agreement .entry)) (now (agreeparams .entry)) (now (domain .entry)) (now (forest .entry)) (now (l1key .entry)) (now (l2key .entry))) (length (now (out .entry)))) ⌝ }
-    ensures output { λ _. ⌜ now (out .exit) ≡ outputOf (envelopeWritten (headFrom head) (given (now (kdf .entry)) (now (kdfparams .entry)) (now (agreement .entry)) (now (agreeparams .entry)) (now (domain .entry)) (now (forest .entry)) (now (l1key .entry)) (now (l2key .entry))) (length (now (out .entry)))) (envelopeBytes (headFrom head) (given (now (kdf .entry)) (now (kdfparams .entry)) (now (agreement .entry)) (now (agreeparams .entry)) (now (domain .entry)) (now (forest .entry)) (now (l1key .entry)) (now (l2key .entry)))) (now (out .entry)) ⌝ }
+    ensures answer { λ r. ⌜ r ≡ writtenAnswer (envelopeWritten (headFrom head) (given (now (kdf .entry)) (now («kdf_parameters» .entry)) (now (agreement .entry)) (now («agreement_parameters» .entry)) (now (domain .entry)) (now (forest .entry)) (now («l1_key» .entry)) (now («l2_key» .entry))) (length (now (out .entry)))) ⌝ }
+    ensures output { λ _. ⌜ now (out .exit) ≡ outputOf (envelopeWritten (headFrom head) (given (now (kdf .entry)) (now («kdf_parameters» .entry)) (now (agreement .entry)) (now («agreement_parameters» .entry)) (now (domain .entry)) (now (forest .entry)) (now («l1_key» .entry)) (now («l2_key» .entry))) (length (now (out .entry)))) (envelopeBytes (headFrom head) (given (now (kdf .entry)) (now («kdf_parameters» .entry)) (now (agreement .entry)) (now («agreement_parameters» .entry)) (now (domain .entry)) (now (forest .entry)) (now («l1_key» .entry)) (now («l2_key» .entry)))) (now (out .entry)) ⌝ }
 {
     to_written(envelope::write(
         out,
         head_from(head),
         kdf,
-        kdfparams,
+        kdf_parameters,
         agreement,
-        agreeparams,
+        agreement_parameters,
         domain,
         forest,
-        l1key,
-        l2key,
+        l1_key,
+        l2_key,
     ))
 }

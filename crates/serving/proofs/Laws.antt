@@ -34,19 +34,19 @@ serves No = false
 pub serves-reached : (e : Envelope) (i : Gkid) → serves (keyFor e i) ≡ reaches (keysOf (formOf e)) (e .head .at) i
 unfolding keyFor serves reaches
 serves-reached e i =
-    by-cases (λ t. serves (cond t (By L2 (e .bodies .l2key)) (cond (keysOf (formOf e) .l1 && l1Reaches (e .head .at) i) (By L1 (e .bodies .l1key)) No))
+    by-cases (λ t. serves (cond t (By L2 (e .bodies .«l2_key»)) (cond (keysOf (formOf e) .l1 && l1Reaches (e .head .at) i) (By L1 (e .bodies .«l1_key»)) No))
     ≡ keysOf (formOf e) .l1 && l1Reaches (e .head .at) i || t) (keysOf (formOf e) .l2 && l2Reaches (e .head .at) i)
     (λ _. by-cases (λ u. true ≡ u || true) (keysOf (formOf e) .l1 && l1Reaches (e .head .at) i) (λ _. refl) (λ _. refl))
-    (λ _. by-cases (λ u. serves (cond u (By L1 (e .bodies .l1key)) No) ≡ u || false) (keysOf (formOf e) .l1 && l1Reaches (e .head .at) i) (λ _. refl) (λ _. refl))
+    (λ _. by-cases (λ u. serves (cond u (By L1 (e .bodies .«l1_key»)) No) ≡ u || false) (keysOf (formOf e) .l1 && l1Reaches (e .head .at) i) (λ _. refl) (λ _. refl))
 
 -- A public or a keyless envelope serves nothing, and an index above 31 is served by nothing.
 pub public-serves-nothing : (e : Envelope) (i : Gkid) → isPublic (e .head .flags) ≡ true → serves (keyFor e i) ≡ false
 unfolding formOf keysOf
 public-serves-nothing e i p =
     serves-reached e i
-    ∙ rw p (cond-cases (λ f. reaches (keysOf f) (e .head .at) i ≡ false) (eqb (e .bodies .l1key .len) 0 && eqb (e .bodies .l2key .len) 0) (λ _. no-key (e .head .at) i) (λ _. no-key (e .head .at) i))
+    ∙ rw p (cond-cases (λ f. reaches (keysOf f) (e .head .at) i ≡ false) (eqb (e .bodies .«l1_key» .len) 0 && eqb (e .bodies .«l2_key» .len) 0) (λ _. no-key (e .head .at) i) (λ _. no-key (e .head .at) i))
 
-pub keyless-serves-nothing : (e : Envelope) (i : Gkid) → e .bodies .l1key .len ≡ 0 → e .bodies .l2key .len ≡ 0 → serves (keyFor e i) ≡ false
+pub keyless-serves-nothing : (e : Envelope) (i : Gkid) → e .bodies .«l1_key» .len ≡ 0 → e .bodies .«l2_key» .len ≡ 0 → serves (keyFor e i) ≡ false
 unfolding reaches
 keyless-serves-nothing e i a b = serves-reached e i ∙ rw (absent-l1 e a, absent-l2 e b)
 

@@ -23,8 +23,8 @@ use Rattle.serving.specs.declared.Choice.the-variants.{Cached, Fetched, 
 -- the key that reaches the identifier, and where it stands
 unfoldable pub keyFor : Envelope → Gkid → Served
 keyFor e i =
-    cond (keysOf (formOf e) .l2 && l2Reaches (e .head .at) i) (By L2 (e .bodies .l2key))
-    (cond (keysOf (formOf e) .l1 && l1Reaches (e .head .at) i) (By L1 (e .bodies .l1key))
+    cond (keysOf (formOf e) .l2 && l2Reaches (e .head .at) i) (By L2 (e .bodies .«l2_key»))
+    (cond (keysOf (formOf e) .l1 && l1Reaches (e .head .at) i) (By L1 (e .bodies .«l1_key»))
     No)
 
 -- an envelope serves if it is accepted, has that root and L0, and reaches the identifier (what is reached has the same L0)

@@ -53,13 +53,13 @@ fn key_for(envelope: Envelope, wanted: Gkid) -> Served
     let bodies = envelope.bodies;
     let head = envelope.head;
     let at = head.at;
-    let l1key = bodies.l1key;
-    let l2key = bodies.l2key;
+    let l1_key = bodies.l1_key;
+    let l2_key = bodies.l2_key;
     if keys.l2 & reach::l2_reaches(at, wanted) {
-        return Served::By(SeedKey::L2, l2key);
+        return Served::By(SeedKey::L2, l2_key);
     }
     if keys.l1 & reach::l1_reaches(at, wanted) {
-        return Served::By(SeedKey::L1, l1key);
+        return Served::By(SeedKey::L1, l1_key);
     }
     Served::No
 }

@@ -19,8 +19,8 @@ struct Held {
     flags: u32,
     l1: u32,
     l2: u32,
-    l1key: u32,
-    l2key: u32,
+    l1_key: u32,
+    l2_key: u32,
 }
 
 fn main() {
@@ -178,15 +178,15 @@ fn keyless() {
 }
 
 // A seed envelope with keys of these lengths.
-fn alone(l1: u32, l2: u32, l1key: u32, l2key: u32) -> Held {
+fn alone(l1: u32, l2: u32, l1_key: u32, l2_key: u32) -> Held {
     Held {
-        len: 88 + l1key as usize + l2key as usize,
+        len: 88 + l1_key as usize + l2_key as usize,
         root: 2,
         flags: 0,
         l1,
         l2,
-        l1key,
-        l2key,
+        l1_key,
+        l2_key,
     }
 }
 
@@ -227,10 +227,10 @@ fn put(s: &mut [u8], held: Held, mark: u8) {
         s,
         [0, MARK, held.flags, 5, held.l1, held.l2],
         &root,
-        [2, 0, 2, 0, 0, 64, held.l1key, held.l2key, 2, 2],
+        [2, 0, 2, 0, 0, 64, held.l1_key, held.l2_key, 2, 2],
     );
     cases::numbers(s, 88, &[mark as u32 + 1]);
-    cases::numbers(s, 88 + held.l1key as usize, &[mark as u32 + 2]);
+    cases::numbers(s, 88 + held.l1_key as usize, &[mark as u32 + 2]);
 }
 
 // The choice for the identifier (l0, l1, l2) under the root whose low half is 2.

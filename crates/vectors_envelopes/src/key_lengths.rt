@@ -63,11 +63,11 @@ fn key_lengths() {
 }
 
 // An envelope at (5, l1, l2) with four texts of 2 bytes and these keys.
-fn keyed(name: &[u8], flags: u32, l1: u32, l2: u32, publiclen: u32, l1key: u32, l2key: u32) {
+fn keyed(name: &[u8], flags: u32, l1: u32, l2: u32, public_length: u32, l1_key: u32, l2_key: u32) {
     headed(
         name,
-        88 + l1key as usize + l2key as usize,
+        88 + l1_key as usize + l2_key as usize,
         [0, MARK, flags, 5, l1, l2],
-        [2, 0, 2, 0, 0, publiclen, l1key, l2key, 2, 2],
+        [2, 0, 2, 0, 0, public_length, l1_key, l2_key, 2, 2],
     );
 }

@@ -48,25 +48,25 @@ fn show_head(line: Line, head: Head) -> Line {
         .number(root.low);
     rooted
         .text(b" PRIVATE ")
-        .number(head.privatelen as u64)
+        .number(head.private_length as u64)
         .text(b" PUBLIC ")
-        .number(head.publiclen as u64)
+        .number(head.public_length as u64)
 }
 
 // The eight places.
 fn show_bodies(line: Line, bodies: Bodies) -> Line {
     let kdf = bodies.kdf;
-    let kdfparams = bodies.kdfparams;
+    let kdf_parameters = bodies.kdf_parameters;
     let agreement = bodies.agreement;
-    let agreeparams = bodies.agreeparams;
+    let agreement_parameters = bodies.agreement_parameters;
     let domain = bodies.domain;
     let forest = bodies.forest;
-    let l1key = bodies.l1key;
-    let l2key = bodies.l2key;
-    let kdfs = place(place(line.text(b" BODIES"), kdf), kdfparams);
-    let agreements = place(place(kdfs, agreement), agreeparams);
+    let l1_key = bodies.l1_key;
+    let l2_key = bodies.l2_key;
+    let kdfs = place(place(line.text(b" BODIES"), kdf), kdf_parameters);
+    let agreements = place(place(kdfs, agreement), agreement_parameters);
     let names = place(place(agreements, domain), forest);
-    place(place(names, l1key), l2key)
+    place(place(names, l1_key), l2_key)
 }
 
 fn place(line: Line, span: Span) -> Line {

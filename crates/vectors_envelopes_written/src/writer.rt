@@ -59,7 +59,7 @@ fn orders() {
 
 // An envelope at (5, l1, 7) written into `room` bytes, whose KDF algorithm is the first n bytes of this letter and a zero, with
 // KDF parameters and an L1 key of so many zeros.
-fn write(name: &[u8], room: usize, l1: u32, letter: u8, n: usize, kdfparams: usize, l1key: usize) {
+fn write(name: &[u8], room: usize, l1: u32, letter: u8, n: usize, kdf_parameters: usize, l1_key: usize) {
     let kdf = [letter, 0];
     let zeros = io::large_buffer();
     let mut out = [FILL; 200];
@@ -69,8 +69,8 @@ fn write(name: &[u8], room: usize, l1: u32, letter: u8, n: usize, kdfparams: usi
         room,
         l1,
         cases::first(&kdf, n),
-        cases::first(&zeros, kdfparams),
-        cases::first(&zeros, l1key),
+        cases::first(&zeros, kdf_parameters),
+        cases::first(&zeros, l1_key),
     ));
 }
 
@@ -80,11 +80,11 @@ fn written(
     room: usize,
     l1: u32,
     kdf: &[u8],
-    kdfparams: &[u8],
-    l1key: &[u8],
+    kdf_parameters: &[u8],
+    l1_key: &[u8],
 ) -> Line {
     if room <= out.len() {
-        let answer = write_into(&mut out[0..room], l1, kdf, kdfparams, l1key);
+        let answer = write_into(&mut out[0..room], l1, kdf, kdf_parameters, l1_key);
         let told = words::written(line, answer);
         if let Written::Length(len) = answer {
             return kept(
@@ -98,7 +98,7 @@ fn written(
     line
 }
 
-fn write_into(out: &mut [u8], l1: u32, kdf: &[u8], kdfparams: &[u8], l1key: &[u8]) -> Written {
+fn write_into(out: &mut [u8], l1: u32, kdf: &[u8], kdf_parameters: &[u8], l1_key: &[u8]) -> Written {
     let empty = [0; 2];
     let text = &empty[..];
     let none = cases::first(text, 0);
@@ -106,12 +106,12 @@ fn write_into(out: &mut [u8], l1: u32, kdf: &[u8], kdfparams: &[u8], l1key: &[u8
         out,
         head_at(l1),
         kdf,
-        kdfparams,
+        kdf_parameters,
         text,
         none,
         text,
         text,
-        l1key,
+        l1_key,
         none,
     )
 }
@@ -132,7 +132,7 @@ fn head_at(l1: u32) -> Head {
             l2: L2(7),
         },
         root: RootId { high: 1, low: 2 },
-        privatelen: 0,
-        publiclen: 0,
+        private_length: 0,
+        public_length: 0,
     }
 }

@@ -20,8 +20,8 @@ returns c =
             l2 = record { 0 = c .before .before .before .le32-at5 .ensures i };
           };
       root = c .before .before .at .ensures i;
-      privatelen = c .before .le32-at6 .ensures i;
-      publiclen = c .le32-at7 .ensures i;
+      «private_length» = c .before .le32-at6 .ensures i;
+      «public_length» = c .le32-at7 .ensures i;
     }
 
 pub head-of-spec : {M : Type 1} → statement M

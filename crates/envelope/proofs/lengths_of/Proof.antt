@@ -10,11 +10,11 @@ returns c =
     λ i.
     record {
       kdf = c .before .before .before .before .before .before .before .le32-at .ensures i;
-      kdfparams = c .before .before .before .before .before .before .le32-at2 .ensures i;
+      «kdf_parameters» = c .before .before .before .before .before .before .le32-at2 .ensures i;
       agreement = c .before .before .before .before .before .le32-at3 .ensures i;
-      agreeparams = c .before .before .before .before .le32-at4 .ensures i;
-      l1key = c .before .before .before .le32-at5 .ensures i;
-      l2key = c .before .before .le32-at6 .ensures i;
+      «agreement_parameters» = c .before .before .before .before .le32-at4 .ensures i;
+      «l1_key» = c .before .before .before .le32-at5 .ensures i;
+      «l2_key» = c .before .before .le32-at6 .ensures i;
       domain = c .before .le32-at7 .ensures i;
       forest = c .le32-at8 .ensures i;
     }

@@ -12,17 +12,17 @@ returns c =
     let first = c .before .before .before .before .before .before .before .before .before .before in
     let a = first .before .before .before .before .before .before .before .before .before .before .before .args in
     let out = a .out .now in
-    let g = given (a .kdf .now) (a .kdfparams .now) (a .agreement .now) (a .agreeparams .now) (a .domain .now) (a .forest .now) (a .l1key .now) (a .l2key .now) in
+    let g = given (a .kdf .now) (a .«kdf_parameters» .now) (a .agreement .now) (a .«agreement_parameters» .now) (a .domain .now) (a .forest .now) (a .«l1_key» .now) (a .«l2_key» .now) in
     let front = joined (headPieces (a .head) (givenLengths g)) in
-    let four = ((g .kdf ++ g .kdfparams) ++ g .agreement) ++ g .agreeparams in
-    let others = ((g .domain ++ g .forest) ++ g .l1key) ++ g .l2key in
+    let four = ((g .kdf ++ g .«kdf_parameters») ++ g .agreement) ++ g .«agreement_parameters» in
+    let others = ((g .domain ++ g .forest) ++ g .«l1_key») ++ g .«l2_key» in
     let size = length-head (a .head) (givenLengths g) in
-    let fours = four-long (g .kdf) (g .kdfparams) (g .agreement) (g .agreeparams) in
-    let mid = 80 + length (g .kdf) + length (g .kdfparams) + length (g .agreement) + length (g .agreeparams) in
-    let end = mid + length (g .domain) + length (g .forest) + length (g .l1key) + length (g .l2key) in
+    let fours = four-long (g .kdf) (g .«kdf_parameters») (g .agreement) (g .«agreement_parameters») in
+    let mid = 80 + length (g .kdf) + length (g .«kdf_parameters») + length (g .agreement) + length (g .«agreement_parameters») in
+    let end = mid + length (g .domain) + length (g .forest) + length (g .«l1_key») + length (g .«l2_key») in
     let r1 = lent [] front out 0 80 (sym (onto-none out)) refl (omega (arith, size)) (omega arith) (first .put-head .ensures) in
     let r2 = lent front four out 80 mid r1 size (omega arith) (omega arith) (c .before .before .before .before .before .before .put-bodies .ensures) in
-    let r3 = lent (front ++ four) others out mid end r2 (omega (arith, size, length-append front four)) (omega (arith, four-long (g .domain) (g .forest) (g .l1key) (g .l2key))) (omega arith) (c .before .before .put-bodies2 .ensures) in
+    let r3 = lent (front ++ four) others out mid end r2 (omega (arith, size, length-append front four)) (omega (arith, four-long (g .domain) (g .forest) (g .«l1_key») (g .«l2_key»))) (omega arith) (c .before .before .put-bodies2 .ensures) in
     r3 ∙ ap (λ bs. onto bs out) (sym (bytes-are (a .head) g))
 
 same-length : tie.Need-same-length

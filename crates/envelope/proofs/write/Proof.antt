@@ -23,12 +23,12 @@ fits c =
       l2 = omega (arith, own);
       high = omega (arith, own);
       low = omega (arith, own);
-      privatelen = omega (arith, own);
-      publiclen = omega (arith, own);
+      «private_length» = omega (arith, own);
+      «public_length» = omega (arith, own);
     }
 
 answered : (c : tie.After-fitted) → (let a = c .before .before .before .before .before .before .before .before .before .before .before .before .before .before .before .before .before .before .before .before .args in
-    let g = given (a .kdf .now) (a .kdfparams .now) (a .agreement .now) (a .agreeparams .now) (a .domain .now) (a .forest .now) (a .l1key .now) (a .l2key .now) in
+    let g = given (a .kdf .now) (a .«kdf_parameters» .now) (a .agreement .now) (a .«agreement_parameters» .now) (a .domain .now) (a .forest .now) (a .«l1_key» .now) (a .«l2_key» .now) in
     c .fitted .result ≡ writtenOf (firstOf (envelopeChecks (envelopeBytes (a .head) g))) (endAt (givenLengths g)) (length (a .out .now)))
 unfolding run bodyChecks
 answered c =
@@ -38,7 +38,7 @@ answered c =
     let sum = five .before .before .before .before in
     let start = sum .before .before .before .before .before .before .before .before .before .before .before in
     let a = start .args in
-    let g = given (a .kdf .now) (a .kdfparams .now) (a .agreement .now) (a .agreeparams .now) (a .domain .now) (a .forest .now) (a .l1key .now) (a .l2key .now) in
+    let g = given (a .kdf .now) (a .«kdf_parameters» .now) (a .agreement .now) (a .«agreement_parameters» .now) (a .domain .now) (a .forest .now) (a .«l1_key» .now) (a .«l2_key» .now) in
     let len = sum .capped2 .result in
     let capped : len ≡ min (endAt (givenLengths g)) 65536 = omega arith in
     let front = five .refuse-if2 .ensures ∙ refuse-is _ (five .before .before .refuse-if .ensures) (five .before .index-above-31 .ensures) ∙ run-first ((ltb 65535 len ⇒ TooLong) ∷ (indexAbove31 (a .head .at) ⇒ IndexAbove31) ∷ []) in
@@ -51,7 +51,7 @@ put-requires : tie.Need-put-requires
 put-requires c κs =
     let f = c .before .before .before in
     let a = f .before .before .before .before .before .before .before .before .before .before .before .before .before .before .before .before .before .before .before .before .args in
-    written-fits (a .head) (given (a .kdf .now) (a .kdfparams .now) (a .agreement .now) (a .agreeparams .now) (a .domain .now) (a .forest .now) (a .l1key .now) (a .l2key .now)) _ _ (sym (answered f) ∙ c .before .enum-told .given .1)
+    written-fits (a .head) (given (a .kdf .now) (a .«kdf_parameters» .now) (a .agreement .now) (a .«agreement_parameters» .now) (a .domain .now) (a .forest .now) (a .«l1_key» .now) (a .«l2_key» .now)) _ _ (sym (answered f) ∙ c .before .enum-told .given .1)
 
 returns : tie.Need-returns
 unfolding outputOf
