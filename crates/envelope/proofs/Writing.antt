@@ -6,7 +6,7 @@ use Rattle.refusal.proofs.Chains.{first-here, first-next, first-after}
 use Rattle.records.specs.declared.Written.the-variants.{Length}
 use Rattle.records.specs.Writing.{writtenOf}
 use Rattle.records.proofs.Laws.{over-capped, written-capped, written-accepted}
-use Rattle.wire.specs.Numbers.{leOf, leBytes, beBytes}
+use Rattle.wire.specs.Numbers.{leOf, leBytes}
 use Rattle.wire.specs.Parts.{leAt, joined, le32Bytes}
 use Rattle.wire.proofs.Numbers.{le-piece}
 use Rattle.wire.proofs.Parts.{piece-part, joined-append}
@@ -47,7 +47,7 @@ bodyGiven g L1Key = g .l1key
 bodyGiven g L2Key = g .l2key
 
 pub length-bytes : (h : Head) (g : Given) → length (envelopeBytes h g) ≡ endAt (givenLengths g)
-unfolding envelopeBytes leBytes rootBytes beBytes
+unfolding envelopeBytes leBytes rootBytes
 length-bytes h g = length-joined (pieces h g) ∙ omega arith
 
 module _ (h : Head) (g : Given) (fit : Fit h) (small : endAt (givenLengths g) ≤ 65535) where
@@ -56,7 +56,7 @@ module _ (h : Head) (g : Given) (fit : Fit h) (small : endAt (givenLengths g) �
   is-marked = le-piece 4 (pieces h g) 1 (leOf mark) 4 refl (omega arith) refl
 
   pub is-head : headOf (envelopeBytes h g) ≡ h
-  unfolding headOf envelopeBytes joined leBytes rootBytes beBytes
+  unfolding headOf envelopeBytes joined leBytes rootBytes
   is-head =
       λ i.
       record {
@@ -74,7 +74,7 @@ module _ (h : Head) (g : Given) (fit : Fit h) (small : endAt (givenLengths g) �
       }
 
   pub are-lengths : lengthsOf (envelopeBytes h g) ≡ givenLengths g
-  unfolding lengthsOf envelopeBytes joined leBytes rootBytes beBytes
+  unfolding lengthsOf envelopeBytes joined leBytes rootBytes
   are-lengths =
       λ i.
       record {
@@ -90,7 +90,7 @@ module _ (h : Head) (g : Given) (fit : Fit h) (small : endAt (givenLengths g) �
 
 -- The body where the lengths place it is the body that was given.
 pub body-is : (h : Head) (g : Given) (which : EnvelopePart) → bodyAt (envelopeBytes h g) (givenLengths g) which ≡ bodyGiven g which
-unfolding envelopeBytes bodiesOf bodySpan leBytes rootBytes beBytes
+unfolding envelopeBytes bodiesOf bodySpan leBytes rootBytes
 body-is h g Kdf = piece-part (pieces h g) 17 80 _ (length-joined (take 17 (pieces h g)) ∙ omega arith) refl
 body-is h g KdfParameters = piece-part (pieces h g) 18 _ _ (length-joined (take 18 (pieces h g)) ∙ omega arith) refl
 body-is h g Agreement = piece-part (pieces h g) 19 _ _ (length-joined (take 19 (pieces h g)) ∙ omega arith) refl
@@ -108,7 +108,7 @@ abbrev pub back : Head → Lengths → List ℕ
 back h n = n .kdf ∷ n .kdfparams ∷ n .agreement ∷ n .agreeparams ∷ h .privatelen ∷ h .publiclen ∷ n .l1key ∷ n .l2key ∷ n .domain ∷ n .forest ∷ []
 
 pub head-runs : (h : Head) (n : Lengths) → (le32Bytes (front h) ++ rootBytes (h .root)) ++ le32Bytes (back h n) ≡ joined (headPieces h n)
-unfolding le32Bytes joined leBytes rootBytes beBytes
+unfolding le32Bytes joined leBytes rootBytes
 head-runs h n = refl
 
 -- The envelope is its head, then four bodies, then four more.
@@ -118,7 +118,7 @@ unfolding envelopeBytes joined
 bytes-are h g = joined-append (headPieces h (givenLengths g)) (bodyPieces g) ∙ simp (append-assoc, append-nil)
 
 pub length-head : (h : Head) (n : Lengths) → length (joined (headPieces h n)) ≡ 80
-unfolding joined leBytes rootBytes beBytes
+unfolding joined leBytes rootBytes
 length-head h n = refl
 
 pub four-long : (a b c d : List ℕ) → length (((a ++ b) ++ c) ++ d) ≡ length a + length b + length c + length d
