@@ -1,6 +1,6 @@
 -- What the writer accepted reads back as given; writing what was read from an accepted envelope gives the same bytes; and an absent
 -- key is an empty part.
-use Rattle.lemmas.proofs.Basics.{ℕ, _+_, _≤_, arith, List, [], _∷_, _≡_, refl, sym, ap, _∙_, length, ltb-false}
+use Rattle.lemmas.proofs.Basics.{ℕ, _+_, _≤_, arith, List, [], _∷_, _≡_, refl, sym, ap, _∙_, length}
 use Rattle.refusal.specs.declared.Outcome.{Outcome}
 use Rattle.refusal.specs.declared.Outcome.the-variants as outcome
 use Rattle.refusal.specs.Chain.{firstOf, unlessRefused}
@@ -16,10 +16,10 @@ use Rattle.envelope.specs.declared.EnvelopeRead.the-variants.{Accepted}
 use Rattle.envelope.specs.Layout.{mark, headOf, lengthsOf, endAt, bodiesOf, bodySpan}
 use Rattle.envelope.specs.Reading.{envelopeChecks, shown, envelopeOf, envelopeNumber, spanOf, bodyAt, envelopePart}
 use Rattle.envelope.specs.WellFormed.{WellFormed}
-use Rattle.envelope.specs.Writing.{Given, givenLengths, envelopeBytes}
-use Rattle.envelope.proofs.Reading.{answer, accepted-shown, passed}
+use Rattle.envelope.specs.Writing.{Given, givenLengths, envelopeBytes, writeChecks}
+use Rattle.envelope.proofs.Reading.{answer, accepted-shown, body-inside}
 use Rattle.envelope.proofs.ExactlyWhen.{accepted-well-formed}
-use Rattle.envelope.proofs.Writing.{Fit, bodyGiven, length-bytes, is-head, are-lengths, body-is}
+use Rattle.envelope.proofs.Writing.{Fit, bodyGiven, is-head, are-lengths, body-is, within-limit}
 
 -- the head's values, and each body byte for byte
 pub record ReadsBack (h : Head) (g : Given) : Type 0 where
@@ -41,15 +41,7 @@ unfolding spanOf
 body-stands s z which = rw (accepted-shown s z)
 
 body-long : (s : List ℕ) → WellFormed s → (which : EnvelopePart) → length (bodyAt s which) ≡ bodySpan (bodiesOf (lengthsOf s)) which .len
-unfolding bodySpan bodiesOf
-body-long s w Kdf = length-part s _ _ (omega (arith, w .lengths))
-body-long s w KdfParameters = length-part s _ _ (omega (arith, w .lengths))
-body-long s w Agreement = length-part s _ _ (omega (arith, w .lengths))
-body-long s w AgreementParameters = length-part s _ _ (omega (arith, w .lengths))
-body-long s w Domain = length-part s _ _ (omega (arith, w .lengths))
-body-long s w Forest = length-part s _ _ (omega (arith, w .lengths))
-body-long s w L1Key = length-part s _ _ (omega (arith, w .lengths))
-body-long s w L2Key = length-part s _ _ (omega (arith, w .lengths))
+body-long s w which = length-part s _ _ (rw (← (w .lengths)) (body-inside (lengthsOf s) which))
 
 -- the bodies that were read
 abbrev pub bodiesRead : List ℕ → Given

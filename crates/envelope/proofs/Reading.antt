@@ -85,7 +85,7 @@ passes s p =
     pass-accepted (envelopeChecks s) (p .limit, (p .head, (p .marked, (p .indices, (p .lengths, accepted-pass _ bodies)))))
 
 -- Each body lies inside the envelope.
-body-inside : (n : Lengths) (which : EnvelopePart) → bodySpan (bodiesOf n) which .at + bodySpan (bodiesOf n) which .len ≤ endAt n
+pub body-inside : (n : Lengths) (which : EnvelopePart) → bodySpan (bodiesOf n) which .at + bodySpan (bodiesOf n) which .len ≤ endAt n
 unfolding bodySpan bodiesOf
 body-inside n Kdf = omega arith
 body-inside n KdfParameters = omega arith
@@ -101,5 +101,5 @@ unfolding envelopeOf unlessRefused spanOf shown
 part-inside s which = told (firstOf (envelopeChecks s)) refl
   where
     told : (o : Outcome) → firstOf (envelopeChecks s) ≡ o → envelopeSpan s which .at + envelopeSpan s which .len ≤ length s
-    told outcome.Accepted e = rw (e, ← (eqb-true _ _ (not-false _ (passed s e .lengths)))) (body-inside (lengthsOf s) which)
+    told outcome.Accepted e = rw (e, ← (eqb-true (endAt (lengthsOf s)) (length s) (not-false _ (passed s e .lengths)))) (body-inside (lengthsOf s) which)
     told (outcome.Refused r) e = rw e (omega arith)

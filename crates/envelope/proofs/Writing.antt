@@ -4,7 +4,7 @@ use Rattle.refusal.specs.declared.Outcome.the-variants as outcome
 use Rattle.refusal.specs.declared.Refusal.the-variants.{TooLong, IndexAbove31}
 use Rattle.refusal.specs.Chain.{Check, _⇒_, firstOf}
 use Rattle.refusal.proofs.Chains.{first-next, first-after}
-use Rattle.wire.specs.Numbers.{leOf, leBytes, beBytes}
+use Rattle.wire.specs.Numbers.{leOf, leBytes}
 use Rattle.wire.specs.Parts.{leAt, partOf, joined, le32Bytes}
 use Rattle.wire.proofs.Numbers.{le-piece}
 use Rattle.wire.proofs.Parts.{piece-part, joined-append}
@@ -45,7 +45,7 @@ bodyGiven g L1Key = g .«l1_key»
 bodyGiven g L2Key = g .«l2_key»
 
 pub length-bytes : (h : Head) (g : Given) → length (envelopeBytes h g) ≡ envelopeLength g
-unfolding envelopeBytes leBytes rootBytes beBytes
+unfolding envelopeBytes leBytes rootBytes
 length-bytes h g = length-joined (pieces h g) ∙ omega arith
 
 module _ (h : Head) (g : Given) (fit : Fit h) (small : envelopeLength g ≤ 65535) where
@@ -54,7 +54,7 @@ module _ (h : Head) (g : Given) (fit : Fit h) (small : envelopeLength g ≤ 6553
   is-marked = le-piece 4 (pieces h g) 1 (leOf mark) 4 refl (omega arith) refl
 
   pub is-head : headOf (envelopeBytes h g) ≡ h
-  unfolding headOf envelopeBytes joined leBytes rootBytes beBytes
+  unfolding headOf envelopeBytes joined leBytes rootBytes
   is-head =
       λ i.
       record {
@@ -72,7 +72,7 @@ module _ (h : Head) (g : Given) (fit : Fit h) (small : envelopeLength g ≤ 6553
       }
 
   pub are-lengths : lengthsOf (envelopeBytes h g) ≡ givenLengths g
-  unfolding lengthsOf envelopeBytes joined leBytes rootBytes beBytes
+  unfolding lengthsOf envelopeBytes joined leBytes rootBytes
   are-lengths =
       λ i.
       record {
@@ -88,7 +88,7 @@ module _ (h : Head) (g : Given) (fit : Fit h) (small : envelopeLength g ≤ 6553
 
 -- The body where the lengths place it is the body that was given.
 pub body-is : (h : Head) (g : Given) (which : EnvelopePart) → partOf (envelopeBytes h g) (bodySpan (bodiesOf (givenLengths g)) which .at) (bodySpan (bodiesOf (givenLengths g)) which .len) ≡ bodyGiven g which
-unfolding envelopeBytes bodiesOf bodySpan leBytes rootBytes beBytes
+unfolding envelopeBytes bodiesOf bodySpan leBytes rootBytes
 body-is h g Kdf = piece-part (pieces h g) 17 80 _ (length-joined (take 17 (pieces h g)) ∙ omega arith) refl
 body-is h g KdfParameters = piece-part (pieces h g) 18 _ _ (length-joined (take 18 (pieces h g)) ∙ omega arith) refl
 body-is h g Agreement = piece-part (pieces h g) 19 _ _ (length-joined (take 19 (pieces h g)) ∙ omega arith) refl
@@ -106,7 +106,7 @@ abbrev pub back : Head → Lengths → List ℕ
 back h n = n .kdf ∷ n .«kdf_parameters» ∷ n .agreement ∷ n .«agreement_parameters» ∷ h .«private_length» ∷ h .«public_length» ∷ n .«l1_key» ∷ n .«l2_key» ∷ n .domain ∷ n .forest ∷ []
 
 pub head-runs : (h : Head) (n : Lengths) → (le32Bytes (front h) ++ rootBytes (h .root)) ++ le32Bytes (back h n) ≡ joined (headPieces h n)
-unfolding le32Bytes joined leBytes rootBytes beBytes
+unfolding le32Bytes joined leBytes rootBytes
 head-runs h n = refl
 
 -- The envelope is its head, then one body after the other.
@@ -116,7 +116,7 @@ unfolding envelopeBytes joined
 bytes-are h g = joined-append (headPieces h (givenLengths g)) (bodyPieces g) ∙ simp (append-assoc, append-nil)
 
 pub length-head : (h : Head) (n : Lengths) → length (joined (headPieces h n)) ≡ 80
-unfolding joined leBytes rootBytes beBytes
+unfolding joined leBytes rootBytes
 length-head h n = refl
 
 -- the checks that can apply to what is given: 1, 5 and those of the bodies

@@ -5,7 +5,7 @@ use lib.IntN.{ℤ, pos, negsuc}
 use Rattle.refusal.specs.Number.{numberOf}
 use Rattle.refusal.specs.Chain.{firstOf, unlessRefused}
 use Rattle.wire.specs.Numbers.{leOf, leBytes, beOf, beBytes}
-use Rattle.wire.specs.Parts.{partOf, beAt}
+use Rattle.wire.specs.Parts.{partOf, leAt, beAt}
 use Rattle.gkid.specs.declared.FileTime.{FileTime}
 use Rattle.gkid.specs.declared.Gkid.{Gkid}
 use Rattle.gkid.specs.Identifier.{gkid, indexAbove31}
@@ -88,7 +88,7 @@ cases =
 
 -- Each is answered as the table says.
 pub t-cases : map (λ c. reply (c .0)) cases ≡ map (λ c. c .1) cases
-unfolding clock id rows asking reply shownOf cases startOf startNumber startShown numberOf firstOf leOf leBytes beOf beBytes partOf beAt indexAbove31 gkidAt rootAt rootBytes sameRoot keysAllowed l1KeyAllowed l2KeyAllowed keysOf seedForm ofGroup l1Reaches l2Reaches reaches bitAt bit rowWhere count table rowOf mapOf emptyMap totalOf seedChecks keyChecks keysReach refusedReach formReach reachTotal below outside outOfRange unset mixed laterThenZ laterThanNow names natural namedOf askedOf tableWrong rowAt suitable rank every orElse firstWhere firstHighest chosenRow rightsTooLow checks grantedAt formFor wantedOf withoutRow withRow granting unlessRefused decision answerNumber answerAt answerForm
+unfolding clock id rows asking reply shownOf cases startOf startNumber startShown numberOf firstOf leOf leBytes beOf beBytes partOf leAt beAt indexAbove31 gkidAt rootAt rootBytes sameRoot keysAllowed l1KeyAllowed l2KeyAllowed keysOf seedForm ofGroup l1Reaches l2Reaches reaches bitAt bit rowWhere count table rowOf mapOf emptyMap totalOf seedChecks keyChecks keysReach refusedReach formReach reachTotal below outside outOfRange unset mixed laterThenZ laterThanNow names natural namedOf askedOf tableWrong rowAt suitable rank every orElse firstWhere firstHighest chosenRow rightsTooLow checks grantedAt formFor wantedOf withoutRow withRow granting unlessRefused decision answerNumber answerAt answerForm
 t-cases = refl
 
 -- An accepted answer of each kind of request: root given or not, and all -1 or named; and CREATE. So nothing that is shown of accepted
@@ -120,5 +120,5 @@ kinds =
     ∷ []
 
 pub each-kind-accepted : map (λ k. kindOf (k .0 .0) (k .0 .1)) kinds ≡ map (λ k. k .1) kinds
-unfolding clock id rows asking kinds kindOf given numberOf firstOf leOf leBytes beOf beBytes partOf beAt gkidAt rootAt rootBytes sameRoot below outside outOfRange unset mixed laterThenZ laterThanNow names natural namedOf askedOf tableWrong rowAt suitable rank every orElse firstWhere firstHighest chosenRow rightsTooLow checks grantedAt wantedOf withoutRow withRow granting unlessRefused decision answerNumber answerCreates
+unfolding clock id rows asking kinds kindOf given numberOf firstOf leOf leBytes beOf beBytes partOf leAt beAt gkidAt rootAt rootBytes sameRoot below outside outOfRange unset mixed laterThenZ laterThanNow names natural namedOf askedOf tableWrong rowAt suitable rank every orElse firstWhere firstHighest chosenRow rightsTooLow checks grantedAt wantedOf withoutRow withRow granting unlessRefused decision answerNumber answerCreates
 each-kind-accepted = refl

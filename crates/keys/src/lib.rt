@@ -1,7 +1,8 @@
-// Document 01, "Group Key Envelope", 11, and "The GetKey decision", Form: the rule on the lengths of an envelope's two keys, and the
-// forms, which say what keys there are.
+// Document 01, "Group Key Envelope", 11, and "The GetKey decision", Form: the rule on the lengths of an envelope's two keys, a key
+// written, and the forms, which say what keys there are.
 ghost use mathlib.Core.Path.{_≡_};
 ghost use Rattle.refusal.specs.Chain.{firstOf};
+ghost use Rattle.wire.specs.Parts.{onto};
 ghost use Rattle.keys.specs.KeyRule.{l1KeyAllowed, l2KeyAllowed, keysAllowed, keyChecks};
 ghost use Rattle.keys.specs.Forms.{keysOf, seedForm, seedKeyLength, seedChecks};
 use gkid::Gkid;
@@ -61,6 +62,13 @@ pub fn judge(public: bool, at: Gkid, publen: usize, l1len: usize, l2len: usize) 
 {
     let allowed = keys_allowed(public, at, publen, l1len, l2len);
     Outcome::Accepted.refuse_if(!allowed, Refusal::KeyLength)
+}
+
+// A key written into the part of the output where it stands.
+pub fn put(dst: &mut [u8], key: &[u8])
+    ensures { λ _. ⌜ now (dst .exit) ≡ onto (now (key .entry)) (now (dst .entry)) ⌝ }
+{
+    wire::copy_into(dst, key);
 }
 
 impl Form {

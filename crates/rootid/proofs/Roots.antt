@@ -1,28 +1,28 @@
 -- Laws of root key identifiers: stored and read back, read and stored, and compared.
 use Rattle.lemmas.proofs.Basics.{ℕ, _+_, _^_, _≤_, _<_, arith, true, _&&_, false≢true, List, [], _++_, _≡_, refl, sym, ap, ap₂, _∙_, eqb, length, getD, take, eq-eqb, eqb-true}
 use Rattle.lemmas.proofs.Cases.{by-cases}
-use Rattle.wire.specs.Numbers.{leBytes, beOf, beBytes}
-use Rattle.wire.specs.Parts.{beAt, partOf, joined}
-use Rattle.wire.proofs.Numbers.{Bytes, be-back, bytes-part, be-part-back}
+use Rattle.wire.specs.Numbers.{leOf, leBytes}
+use Rattle.wire.specs.Parts.{leAt, partOf, joined}
+use Rattle.wire.proofs.Numbers.{Bytes, le-back, bytes-part, le-part-back}
 use Rattle.wire.proofs.Parts.{piece-part, part-whole, part-next, length-part}
 use Rattle.rootid.specs.declared.RootId.{RootId}
 use Rattle.rootid.specs.Root.{rootAt, rootBytes, sameRoot}
 
 pub length-rootBytes : (r : RootId) → length (rootBytes r) ≡ 16
-unfolding rootBytes beBytes leBytes
+unfolding rootBytes leBytes
 length-rootBytes r = refl
 
-halves : (r : RootId) → r .high < 2 ^ 64 → r .low < 2 ^ 64 → (beOf (partOf (rootBytes r) 0 8) ≡ r .high) × (beOf (partOf (rootBytes r) 8 8) ≡ r .low)
-unfolding rootBytes beBytes leBytes partOf
-halves r high low = (be-back 8 (r .high) high, be-back 8 (r .low) low)
+halves : (r : RootId) → r .high < 2 ^ 64 → r .low < 2 ^ 64 → (leOf (partOf (rootBytes r) 0 8) ≡ r .low) × (leOf (partOf (rootBytes r) 8 8) ≡ r .high)
+unfolding rootBytes leBytes partOf
+halves r high low = (le-back 8 (r .low) low, le-back 8 (r .high) high)
 
 -- Stored as the k-th piece of a record, and read back.
 pub root-piece : (pieces : List (List ℕ)) (k : ℕ) (r : RootId) (at : ℕ) → getD pieces k [] ≡ rootBytes r → r .high < 2 ^ 64 → r .low < 2 ^ 64
     → length (joined (take k pieces)) ≡ at → rootAt (joined pieces) at ≡ r
-unfolding rootAt beAt
+unfolding rootAt leAt
 root-piece pieces k r at e high low p =
     let part : partOf (joined pieces) at 16 ≡ rootBytes r = piece-part pieces k at 16 p (ap length e ∙ length-rootBytes r) ∙ e in
-    rw part (λ i. record { high = halves r high low .0 i; low = halves r high low .1 i })
+    rw part (λ i. record { low = halves r high low .0 i; high = halves r high low .1 i })
 
 -- Read from bytes, and stored: the same bytes.
 pub root-bytes : (s : List ℕ) (at : ℕ) → Bytes s → at + 16 ≤ length s → rootBytes (rootAt s at) ≡ partOf s at 16
@@ -31,7 +31,7 @@ root-bytes s at b h =
     let p = partOf s at 16 in
     let bp = bytes-part s at 16 b in
     let size = length-part s at 16 h in
-    ap₂ (λ x y. x ++ y) (be-part-back 8 p 0 bp (omega arith)) (be-part-back 8 p 8 bp (omega arith))
+    ap₂ (λ x y. x ++ y) (le-part-back 8 p 0 bp (omega arith)) (le-part-back 8 p 8 bp (omega arith))
     ∙ part-next p 0 8 8 (omega arith) ∙ ap (partOf p 0) (sym size) ∙ part-whole p
 
 -- Compared: the same exactly where both halves are.

@@ -1,12 +1,13 @@
-// Root key identifiers: 16 bytes, as they stand in an envelope, a table row and a request, held as two numbers, the most
-// significant byte first. No GUID byte order is applied anywhere.
+// Root key identifiers: 16 bytes, as they stand in an envelope, a table row and a request, held as two little-endian numbers.
+// They are only compared, so that the order of the bytes means nothing; no GUID byte order is applied anywhere.
 ghost use mathlib.Core.Path.{_≡_};
 ghost use Rattle.wire.specs.Parts.{onto};
 ghost use Rattle.rootid.specs.Root.{rootAt, rootBytes, sameRoot};
 
+// `low` is bytes 0 to 8, `high` is bytes 8 to 16.
 pub struct RootId {
-    pub high: u64,
     pub low: u64,
+    pub high: u64,
 }
 
 impl RootId {
@@ -16,8 +17,8 @@ impl RootId {
     {
         let b = wire::part(s, wire::Span { at, len: 16 });
         RootId {
-            high: wire::be64_at(b, 0),
-            low: wire::be64_at(b, 8),
+            low: wire::le64_at(b, 0),
+            high: wire::le64_at(b, 8),
         }
     }
 
@@ -32,8 +33,8 @@ impl RootId {
         ensures { λ _. ⌜ now (dst .exit) ≡ onto (rootBytes self) (now (dst .entry)) ⌝ }
     {
         if 16 <= dst.len() {
-            wire::put_be64(&mut dst[0..8], self.high);
-            wire::put_be64(&mut dst[8..16], self.low);
+            wire::put_le64(&mut dst[0..8], self.low);
+            wire::put_le64(&mut dst[8..16], self.high);
         }
     }
 }

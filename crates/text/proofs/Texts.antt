@@ -1,5 +1,6 @@
 -- Laws of the text rule, unit by unit, as a loop over the bytes looks at it.
 use Rattle.lemmas.proofs.Basics.{ℕ, suc, _+_, _-_, _≤_, _<_, arith, add-one, true, false, cond, List, [], _∷_, _≡_, refl, sym, ap, _∙_, eqb, eqb·suc-zero, length, getD, drop, length-drop, drop-cons, eq-eqb, ne-eqb, eqb-true, eqb-false}
+use native.Mathlib.Nat.{add-assoc}
 use Rattle.lemmas.proofs.Cases.{by-cases}
 use Rattle.text.specs.Text.{zeroUnit, isEmpty, isText}
 
@@ -37,3 +38,13 @@ module _ (s : List ℕ) (at : ℕ) (h : 2 ≤ length s - at) where
 
   pub text-next : zeroUnit (getD s at 0) (getD s (at + 1) 0) ≡ false → isText (drop at s) ≡ isText (drop (at + 2) s)
   text-next z = unit-at ∙ rw z
+
+-- Four units from a place on, none of them zero: the text from behind them on.
+module _ (s : List ℕ) (at : ℕ) (h : 8 ≤ length s - at) where
+  next-at : (k : ℕ) → k ≤ 6 → zeroUnit (getD s (at + k) 0) (getD s (at + (k + 1)) 0) ≡ false → isText (drop (at + k) s) ≡ isText (drop (at + (k + 2)) s)
+  next-at k small = rw (← (add-assoc at k 1), ← (add-assoc at k 2)) (text-next s (at + k) (omega arith))
+
+  pub text-next-four : zeroUnit (getD s at 0) (getD s (at + 1) 0) ≡ false → zeroUnit (getD s (at + 2) 0) (getD s (at + 3) 0) ≡ false
+      → zeroUnit (getD s (at + 4) 0) (getD s (at + 5) 0) ≡ false → zeroUnit (getD s (at + 6) 0) (getD s (at + 7) 0) ≡ false
+      → isText (drop at s) ≡ isText (drop (at + 8) s)
+  text-next-four z1 z2 z3 z4 = text-next s at (omega arith) z1 ∙ next-at 2 (omega arith) z2 ∙ next-at 4 (omega arith) z3 ∙ next-at 6 (omega arith) z4

@@ -312,10 +312,25 @@ fn row(table: &mut [u8], place: u32, low: u64, starts: u64, created: u64) {
 
 fn put_row(row: &mut [u8], low: u64, starts: u64, created: u64) {
     if row.len() >= 32 {
-        wire::put_be64(&mut row[8..16], low);
-        wire::put_be64(&mut row[16..24], starts);
-        wire::put_be64(&mut row[24..32], created);
+        RootId { high: 0, low }.put(&mut row[0..16]);
+        put_time(&mut row[16..24], starts);
+        put_time(&mut row[24..32], created);
     }
+}
+
+// A row's time, most significant byte first.
+fn put_time(dst: &mut [u8], time: u64) {
+    let b = [
+        (time / 256 / 256 / 256 / 256 / 256 / 256 / 256 % 256) as u8,
+        (time / 256 / 256 / 256 / 256 / 256 / 256 % 256) as u8,
+        (time / 256 / 256 / 256 / 256 / 256 % 256) as u8,
+        (time / 256 / 256 / 256 / 256 % 256) as u8,
+        (time / 256 / 256 / 256 % 256) as u8,
+        (time / 256 / 256 % 256) as u8,
+        (time / 256 % 256) as u8,
+        (time % 256) as u8,
+    ];
+    wire::copy_into(dst, &b);
 }
 
 // With seed rights, and one row that suits.

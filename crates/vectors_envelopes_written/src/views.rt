@@ -43,9 +43,9 @@ fn show_head(line: Line, head: Head) -> Line {
         .number(head.flags as u64);
     let rooted = words::identifier(flags.text(b" AT "), at)
         .text(b" ROOT ")
-        .number(root.high)
+        .number(root.low)
         .text(b" ")
-        .number(root.low);
+        .number(root.high);
     rooted
         .text(b" PRIVATE ")
         .number(head.private_length as u64)

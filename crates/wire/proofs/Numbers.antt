@@ -1,6 +1,6 @@
 -- Laws of numbers in bytes, shown once over the width: stored and read back, read and stored, and how far a number goes.
-use Rattle.lemmas.proofs.Basics.{ℕ, zero, suc, _+_, _*_, _/_, _%_, _^_, _≤_, _<_, arith, mul-assoc, pow-suc, pow-succ', List, [], _∷_, _++_, reverse, reverseAux, reverse-reverse, _≡_, refl, sym, ap, _∙_, leb, length, getD, take, drop, length-reverse}
-use Rattle.wire.specs.Numbers.{leOf, leBytes, beOf, beBytes}
+use Rattle.lemmas.proofs.Basics.{ℕ, zero, suc, _+_, _*_, _/_, _%_, _^_, _≤_, _<_, arith, mul-assoc, pow-suc, pow-succ', List, [], _∷_, _++_, _≡_, refl, sym, ap, _∙_, leb, length, getD, take, drop}
+use Rattle.wire.specs.Numbers.{leOf, leBytes, beOf}
 use Rattle.wire.specs.Parts.{partOf, leAt, beAt, joined}
 use Rattle.lemmas.proofs.Cases.{cond-cases}
 use Rattle.wire.proofs.Parts.{piece-part, length-part}
@@ -41,24 +41,6 @@ pub le-append : (bs cs : List ℕ) → leOf (bs ++ cs) ≡ leOf bs + 256 ^ lengt
 unfolding leOf
 le-append [] cs = omega arith
 le-append (b ∷ bs) cs = rw (le-append bs cs, pow-succ' 256 (length bs), mul-assoc) (omega arith)
-
--- Most significant first: the same laws, of the bytes turned round.
-pub length-beBytes : (w x : ℕ) → length (beBytes w x) ≡ w
-unfolding beBytes
-length-beBytes w x = length-reverse (leBytes w x) ∙ length-leBytes w x
-
-bytes-turned : (bs cs : List ℕ) → Bytes bs → Bytes cs → Bytes (reverseAux bs cs)
-bytes-turned [] cs p q = q
-bytes-turned (b ∷ bs) cs p q = bytes-turned bs (b ∷ cs) (p .1) (p .0, q)
-
-pub be-back : (w x : ℕ) → x < 256 ^ w → beOf (beBytes w x) ≡ x
-unfolding beOf beBytes
-be-back w x h = rw (reverse-reverse (leBytes w x)) (le-back w x h)
-
-pub be-bytes-back : (bs : List ℕ) → Bytes bs → beBytes (length bs) (beOf bs) ≡ bs
-unfolding beOf beBytes
-be-bytes-back bs p =
-    ap (λ n. reverse (leBytes n (leOf (reverse bs)))) (sym (length-reverse bs)) ∙ ap reverse (bytes-back (reverse bs) (bytes-turned bs [] p tt)) ∙ reverse-reverse bs
 
 -- a list by its places
 abbrev pub places : ℕ → (ℕ → ℕ) → List ℕ
@@ -102,7 +84,3 @@ bytes-part s at len b = cond-cases Bytes (leb (at + len) (length s)) (λ _. byte
 pub le-part-back : (w : ℕ) (s : List ℕ) (at : ℕ) → Bytes s → at + w ≤ length s → leBytes w (leAt w s at) ≡ partOf s at w
 unfolding leAt
 le-part-back w s at b h = ap (λ n. leBytes n (leOf (partOf s at w))) (sym (length-part s at w h)) ∙ bytes-back (partOf s at w) (bytes-part s at w b)
-
-pub be-part-back : (w : ℕ) (s : List ℕ) (at : ℕ) → Bytes s → at + w ≤ length s → beBytes w (beAt w s at) ≡ partOf s at w
-unfolding beAt
-be-part-back w s at b h = ap (λ n. beBytes n (beOf (partOf s at w))) (sym (length-part s at w h)) ∙ be-bytes-back (partOf s at w) (bytes-part s at w b)

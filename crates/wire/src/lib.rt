@@ -3,7 +3,7 @@
 ghost use mathlib.Core.Path.{_≡_};
 ghost use mathlib.Core.List.{[], _∷_};
 ghost use Prim.Native.Nat.{_+_, _*_};
-ghost use Rattle.wire.specs.Numbers.{leOf, leBytes, beBytes};
+ghost use Rattle.wire.specs.Numbers.{leOf, leBytes};
 ghost use Rattle.wire.specs.Parts.{leAt, beAt, partOf, startOf, onto, le32Bytes};
 
 // A place in a slice: `len` bytes from `at` on.
@@ -105,19 +105,19 @@ fn put_le32(dst: &mut [u8], x: u32)
     copy_into(dst, &b);
 }
 
-// A u64 put at the start of a lent part, most significant byte first.
-pub fn put_be64(dst: &mut [u8], x: u64)
-    ensures { λ _. ⌜ now (dst .exit) ≡ onto (beBytes 8 x) (now (dst .entry)) ⌝ }
+// A u64 put at the start of a lent part, little-endian.
+pub fn put_le64(dst: &mut [u8], x: u64)
+    ensures { λ _. ⌜ now (dst .exit) ≡ onto (leBytes 8 x) (now (dst .entry)) ⌝ }
 {
     let b = [
-        (x / 256 / 256 / 256 / 256 / 256 / 256 / 256 % 256) as u8,
-        (x / 256 / 256 / 256 / 256 / 256 / 256 % 256) as u8,
-        (x / 256 / 256 / 256 / 256 / 256 % 256) as u8,
-        (x / 256 / 256 / 256 / 256 % 256) as u8,
-        (x / 256 / 256 / 256 % 256) as u8,
-        (x / 256 / 256 % 256) as u8,
-        (x / 256 % 256) as u8,
         (x % 256) as u8,
+        (x / 256 % 256) as u8,
+        (x / 256 / 256 % 256) as u8,
+        (x / 256 / 256 / 256 % 256) as u8,
+        (x / 256 / 256 / 256 / 256 % 256) as u8,
+        (x / 256 / 256 / 256 / 256 / 256 % 256) as u8,
+        (x / 256 / 256 / 256 / 256 / 256 / 256 % 256) as u8,
+        (x / 256 / 256 / 256 / 256 / 256 / 256 / 256 % 256) as u8,
     ];
     copy_into(dst, &b);
 }

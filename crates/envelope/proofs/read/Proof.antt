@@ -1,40 +1,36 @@
--- `read`: 1 and 2 by the length; then the head and the lengths are judged, and the outcome is told.
-use Rattle.lemmas.proofs.Basics.{refl, sym, _∙_, needs}
-use Rattle.envelope.specs.Layout.{bodiesOf}
-use Rattle.refusal.specs.Chain.{unlessRefused}
-use Rattle.envelope.proofs.Reading.{envelope-long, envelope-short, envelope-judged}
+use borrow.Author.Needs.{needs}
 use Rattle.envelope.proofs.read.Statement.{statement}
 use Rattle.envelope.proofs.read.Tie as tie
+use Rattle.envelope.proofs.read.Reads as reads
+use Rattle.envelope.proofs.read.Lts as lts
+use Rattle.envelope.proofs.judge.Reads as judge-reads
+use Rattle.envelope.proofs.shown.Reads as shown-reads
 
+-- src/lib.rt:150:11
+judge-requires : tie.Need-judge-requires
+judge-requires c κs = search needs
+
+-- src/lib.rt:152:43
+enum-told : tie.Need-enum-told
+enum-told c = search needs
+
+-- src/lib.rt:152:43
+shown-requires : tie.Need-shown-requires
+shown-requires c κs = search needs
+
+-- src/lib.rt:152:13
 returns : tie.Need-returns
-returns c = sym (envelope-long _ (c .if1 .taken))
+returns c = ?
 
+-- src/lib.rt:154:26
+enum-known-refusal : tie.Need-enum-known-refusal
+enum-known-refusal c = search needs
+
+-- src/lib.rt:155:13
 returns-2 : tie.Need-returns-2
-returns-2 c = sym (envelope-short _ (c .before .if1 .left) (c .if2 .taken))
-
-returns-3 : tie.Need-returns-3
-unfolding unlessRefused
-returns-3 c =
-    let j = c .before .before .before in
-    let h = j .before .before .before in
-    sym
-    (envelope-judged _ (h .before .before .if1 .left) (h .before .if2 .left) (j .before .le32-at .ensures) (h .head-of .ensures) (j .before .before .lengths-of .ensures) (c .bodies-of .ensures)
-    (sym (c .before .enum-told .given .1) ∙ j .judge .ensures))
-
-returns-4 : tie.Need-returns-4
-unfolding unlessRefused
-returns-4 c =
-    let j = c .before .before .before in
-    let h = j .before .before .before in
-    sym
-    (envelope-judged _ (h .before .before .if1 .left) (h .before .if2 .left) (j .before .le32-at .ensures) (h .head-of .ensures) (j .before .before .lengths-of .ensures) (refl {a = bodiesOf (j .before .before .lengths-of .result)})
-    (sym (c .before .refusal .given .1) ∙ j .judge .ensures))
+returns-2 c = ?
 
 pub read-spec : {M : Type 1} → statement M
-read-spec = tie.close (tie.spec
-    returns
-    returns-2
-    (λ c κs. search needs) (λ c κs. search needs) (λ c κs. search needs) (λ c κs. search needs) (λ c. search needs)
-    (λ c κs. search needs) (λ c. search needs)
-    returns-3
-    returns-4)
+read-spec =
+    tie.close
+    (tie.spec judge-requires enum-told shown-requires returns enum-known-refusal returns-2)

@@ -1,7 +1,7 @@
 -- `RootId::put`: the two halves, each into its own eight bytes.
 use Rattle.lemmas.proofs.Basics.{arith, [], refl, sym, needs}
-use Rattle.wire.specs.Numbers.{beBytes}
-use Rattle.wire.proofs.Numbers.{length-beBytes}
+use Rattle.wire.specs.Numbers.{leBytes}
+use Rattle.wire.proofs.Numbers.{length-leBytes}
 use Rattle.wire.proofs.Writing.{lent, onto-none, onto-out}
 use Rattle.rootid.specs.Root.{rootBytes}
 use Rattle.rootid.proofs.Roots.{length-rootBytes}
@@ -13,11 +13,11 @@ unfolding rootBytes
 returns c =
     let first = c .before .before .before .before .before .before in
     let a = first .before .before .before .before .args in
-    let high = beBytes 8 (a .self .high) in
-    let low = beBytes 8 (a .self .low) in
-    let size = length-beBytes 8 (a .self .high) in
-    let r1 = lent [] high (a .dst .now) 0 8 (sym (onto-none (a .dst .now))) refl (omega (arith, size)) (omega arith) (first .put-be64 .ensures) in
-    lent high low (a .dst .now) 8 16 r1 size (omega (arith, length-beBytes 8 (a .self .low))) (omega arith) (c .before .before .put-be642 .ensures)
+    let low = leBytes 8 (a .self .low) in
+    let high = leBytes 8 (a .self .high) in
+    let size = length-leBytes 8 (a .self .low) in
+    let r1 = lent [] low (a .dst .now) 0 8 (sym (onto-none (a .dst .now))) refl (omega (arith, size)) (omega arith) (first .put-le64 .ensures) in
+    lent low high (a .dst .now) 8 16 r1 size (omega (arith, length-leBytes 8 (a .self .high))) (omega arith) (c .before .before .put-le642 .ensures)
 
 returns-2 : tie.Need-returns-2
 returns-2 c =
