@@ -37,7 +37,7 @@ reads-back h g fit accepted =
 
 -- A body of an accepted envelope stands where the lengths place it, and has its length.
 body-stands : (s : List ℕ) → envelopeNumber (envelopeOf s) ≡ 0 → (which : EnvelopePart) → envelopePart s which ≡ bodyAt s which
-unfolding spanOf
+unfolding shown spanOf
 body-stands s z which = rw (accepted-shown s z)
 
 body-long : (s : List ℕ) → WellFormed s → (which : EnvelopePart) → length (bodyAt s which) ≡ bodySpan (bodiesOf (lengthsOf s)) which .len
@@ -103,7 +103,7 @@ rewritten s b z =
 -- Absent means absent: of an envelope with no L1 key the part handed out for it is empty, and so is the L2 key's of one with no L2 key.
 -- The part is a function of these bytes alone: there is no state to fall back on.
 pub absent : (s : List ℕ) (which : EnvelopePart) → bodySpan (bodiesOf (lengthsOf s)) which .len ≡ 0 → envelopePart s which ≡ []
-unfolding envelopeOf unlessRefused spanOf
+unfolding envelopeOf unlessRefused shown spanOf
 absent s which none = told (firstOf (envelopeChecks s))
   where
     told : (o : Outcome) → partOf s (spanOf (answer o (shown s)) which .at) (spanOf (answer o (shown s)) which .len) ≡ []

@@ -1,17 +1,19 @@
 -- Laws of the reader's answer.
-use Rattle.lemmas.proofs.Basics.{ℕ, _+_, _≤_, arith, false, not, List, _≡_, refl, sym, ap, _∙_, ltb, eqb, length, eqb-true}
+use Rattle.lemmas.proofs.Basics.{ℕ, _+_, _≤_, arith, false, not, List, _≡_, refl, sym, ap, _∙_, ltb, eqb, length, eq-eqb, eqb-true}
 use Rattle.lemmas.proofs.Cases.{not-false}
 use Rattle.refusal.specs.declared.Outcome.{Outcome}
 use Rattle.refusal.specs.declared.Outcome.the-variants as outcome
 use Rattle.refusal.specs.declared.Refusal.{Refusal}
-use Rattle.refusal.specs.Chain.{firstOf, unlessRefused}
-use Rattle.refusal.proofs.Chains.{accepted-pass, pass-accepted, append-accepted, accepted-append, stops, unless-zero}
+use Rattle.refusal.specs.Chain.{firstOf, unlessRefused, goesOn}
+use Rattle.refusal.proofs.Chains.{accepted-pass, pass-accepted, first-next, append-accepted, accepted-append, then-first, stops, unless-zero}
 use Rattle.wire.specs.Numbers.{leOf}
-use Rattle.wire.specs.Parts.{leAt}
+use Rattle.wire.specs.Parts.{leAt, partOf}
 use Rattle.gkid.specs.Identifier.{indexAbove31}
 use Rattle.text.specs.Text.{textChecks}
 use Rattle.keys.specs.KeyRule.{keyChecks}
+use Rattle.envelope.specs.declared.Head.{Head}
 use Rattle.envelope.specs.declared.Lengths.{Lengths}
+use Rattle.envelope.specs.declared.Bodies.{Bodies}
 use Rattle.envelope.specs.declared.Envelope.{Envelope}
 use Rattle.envelope.specs.declared.EnvelopePart.{EnvelopePart}
 use Rattle.envelope.specs.declared.EnvelopePart.the-variants.{Kdf, KdfParameters, Agreement, AgreementParameters, Domain, Forest, L1Key, L2Key}
@@ -28,6 +30,15 @@ answer o e = unlessRefused Refused o (Accepted e)
 pub envelope-judged : (s : List ℕ) {o : Outcome} {e : Envelope} → o ≡ firstOf (envelopeChecks s) → e ≡ shown s → envelopeOf s ≡ answer o e
 unfolding envelopeOf
 envelope-judged s judged is-shown = rw (judged, is-shown)
+
+-- The layout's checks from the head, the lengths and the bodies' places, as they were read: the texts' outcome, then the keys'.
+pub layout-judged : (s : List ℕ) {h : Head} {n : Lengths} {b : Bodies} {texts keys : Outcome} → h ≡ headOf s → n ≡ lengthsOf s → b ≡ bodiesOf n
+    → indexAbove31 (h .at) ≡ false → endAt n ≡ length s
+    → texts ≡ firstOf (fourTexts (partOf s (b .kdf .at) (b .kdf .len)) (partOf s (b .agreement .at) (b .agreement .len)) (partOf s (b .domain .at) (b .domain .len)) (partOf s (b .forest .at) (b .forest .len)))
+    → keys ≡ firstOf (keyChecks (isPublic (h .flags)) (h .at) (h .«public_length») (n .«l1_key») (n .«l2_key»)) → goesOn texts keys ≡ firstOf (layoutChecks s)
+unfolding layoutChecks bodyChecks bodySpan
+layout-judged s is-head is-lengths is-bodies indices lengths texts keys =
+    rw (← is-head, ← is-lengths, ← is-bodies) (then-first _ _ texts keys ∙ sym (first-next _ _ _ indices ∙ first-next _ _ _ (ap not (eq-eqb _ _ lengths))))
 
 -- What the checks of the head refuse is refused so.
 pub head-refused : (s : List ℕ) {o : Outcome} {r : Refusal} → o ≡ firstOf (headChecks s) → o ≡ outcome.Refused r → envelopeOf s ≡ Refused r

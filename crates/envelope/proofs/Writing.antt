@@ -30,8 +30,8 @@ pub record Fit (h : Head) : Type 0 where
   pub l2 : h .at .l2 .0 < 2 ^ 32
   pub high : h .root .high < 2 ^ 64
   pub low : h .root .low < 2 ^ 64
-  pub «private_length» : h .«private_length» < 2 ^ 32
-  pub «public_length» : h .«public_length» < 2 ^ 32
+  pub private-length : h .«private_length» < 2 ^ 32
+  pub public-length : h .«public_length» < 2 ^ 32
 
 -- the body that was given
 abbrev pub bodyGiven : Given → EnvelopePart → List ℕ
@@ -67,8 +67,8 @@ module _ (h : Head) (g : Given) (fit : Fit h) (small : envelopeLength g ≤ 6553
               l2 = record { 0 = le-piece 4 (pieces h g) 5 (h .at .l2 .0) 20 refl (fit .l2) refl i };
             };
         root = root-piece (pieces h g) 6 (h .root) 24 refl (fit .high) (fit .low) refl i;
-        «private_length» = le-piece 4 (pieces h g) 11 (h .«private_length») 56 refl (fit .«private_length») refl i;
-        «public_length» = le-piece 4 (pieces h g) 12 (h .«public_length») 60 refl (fit .«public_length») refl i;
+        «private_length» = le-piece 4 (pieces h g) 11 (h .«private_length») 56 refl (fit .private-length) refl i;
+        «public_length» = le-piece 4 (pieces h g) 12 (h .«public_length») 60 refl (fit .public-length) refl i;
       }
 
   pub are-lengths : lengthsOf (envelopeBytes h g) ≡ givenLengths g
@@ -109,9 +109,9 @@ pub head-runs : (h : Head) (n : Lengths) → (le32Bytes (front h) ++ rootBytes (
 unfolding le32Bytes joined leBytes rootBytes
 head-runs h n = refl
 
--- The envelope is its head, then one body after the other.
+-- The envelope is its head, then its bodies, two by two.
 pub bytes-are : (h : Head) (g : Given) → envelopeBytes h g
-    ≡ (((((((joined (headPieces h (givenLengths g)) ++ g .kdf) ++ g .«kdf_parameters») ++ g .agreement) ++ g .«agreement_parameters») ++ g .domain) ++ g .forest) ++ g .«l1_key») ++ g .«l2_key»
+    ≡ (((joined (headPieces h (givenLengths g)) ++ (g .kdf ++ g .«kdf_parameters»)) ++ (g .agreement ++ g .«agreement_parameters»)) ++ (g .domain ++ g .forest)) ++ (g .«l1_key» ++ g .«l2_key»)
 unfolding envelopeBytes joined
 bytes-are h g = joined-append (headPieces h (givenLengths g)) (bodyPieces g) ∙ simp (append-assoc, append-nil)
 

@@ -1,5 +1,6 @@
 // Document 01, "Group Key Envelope" (MS-GKDI 2.2.4), read and written.
 ghost use mathlib.Core.Path.{_≡_};
+ghost use mathlib.Core.List.{_++_};
 ghost use Prim.Native.Nat.{_+_, _≤_, min};
 ghost use lib.ListN.{length};
 ghost use Rattle.refusal.specs.Chain.{firstOf};
@@ -485,23 +486,19 @@ fn put(
         domain: domain.len() as u32,
         forest: forest.len() as u32,
     };
-    let kdf_end = 80 + kdf.len();
-    let kdf_parameters_end = kdf_end + kdf_parameters.len();
-    let agreement_end = kdf_parameters_end + agreement.len();
-    let agreement_parameters_end = agreement_end + agreement_parameters.len();
-    let domain_end = agreement_parameters_end + domain.len();
-    let forest_end = domain_end + forest.len();
-    let l1_key_end = forest_end + l1_key.len();
-    let l2_key_end = l1_key_end + l2_key.len();
+    let agreement_at = 80 + kdf.len() + kdf_parameters.len();
+    let domain_at = agreement_at + agreement.len() + agreement_parameters.len();
+    let l1_key_at = domain_at + domain.len() + forest.len();
+    let end = l1_key_at + l1_key.len() + l2_key.len();
     put_head(&mut out[0..80], head, lengths);
-    text::put(&mut out[80..kdf_end], kdf);
-    put_parameters(&mut out[kdf_end..kdf_parameters_end], kdf_parameters);
-    text::put(&mut out[kdf_parameters_end..agreement_end], agreement);
-    put_parameters(&mut out[agreement_end..agreement_parameters_end], agreement_parameters);
-    text::put(&mut out[agreement_parameters_end..domain_end], domain);
-    text::put(&mut out[domain_end..forest_end], forest);
-    keys::put(&mut out[forest_end..l1_key_end], l1_key);
-    keys::put(&mut out[l1_key_end..l2_key_end], l2_key);
+    put_algorithm(&mut out[80..agreement_at], kdf, kdf_parameters);
+    put_algorithm(
+        &mut out[agreement_at..domain_at],
+        agreement,
+        agreement_parameters,
+    );
+    put_names(&mut out[domain_at..l1_key_at], domain, forest);
+    put_keys(&mut out[l1_key_at..end], l1_key, l2_key);
 }
 
 fn put_head(dst: &mut [u8], head: Head, n: Lengths)
@@ -535,9 +532,39 @@ fn put_head(dst: &mut [u8], head: Head, n: Lengths)
     put_le32s(&mut dst[40..80], &lengths);
 }
 
-// Parameters written into the part of the output where they stand; their insides are not judged.
+// An algorithm: its name, which is a text, and its parameters, each into its own part.
+fn put_algorithm(dst: &mut [u8], name: &[u8], parameters: &[u8])
+    requires { ⌜ length (now name) + length (now parameters) ≤ length (now dst) ⌝ }
+    ensures { λ _. ⌜ now (dst .exit) ≡ onto (now (name .entry) ++ now (parameters .entry)) (now (dst .entry)) ⌝ }
+{
+    let end = name.len() + parameters.len();
+    text::put(&mut dst[0..name.len()], name);
+    put_parameters(&mut dst[name.len()..end], parameters);
+}
+
+// Parameters, of which nothing is judged, written into the part of the output where they stand.
 fn put_parameters(dst: &mut [u8], parameters: &[u8])
     ensures { λ _. ⌜ now (dst .exit) ≡ onto (now (parameters .entry)) (now (dst .entry)) ⌝ }
 {
     copy_into(dst, parameters);
+}
+
+// The names of the domain and the forest, each into its own part.
+fn put_names(dst: &mut [u8], domain: &[u8], forest: &[u8])
+    requires { ⌜ length (now domain) + length (now forest) ≤ length (now dst) ⌝ }
+    ensures { λ _. ⌜ now (dst .exit) ≡ onto (now (domain .entry) ++ now (forest .entry)) (now (dst .entry)) ⌝ }
+{
+    let end = domain.len() + forest.len();
+    text::put(&mut dst[0..domain.len()], domain);
+    text::put(&mut dst[domain.len()..end], forest);
+}
+
+// The two keys, each into its own part.
+fn put_keys(dst: &mut [u8], l1: &[u8], l2: &[u8])
+    requires { ⌜ length (now l1) + length (now l2) ≤ length (now dst) ⌝ }
+    ensures { λ _. ⌜ now (dst .exit) ≡ onto (now (l1 .entry) ++ now (l2 .entry)) (now (dst .entry)) ⌝ }
+{
+    let end = l1.len() + l2.len();
+    keys::put(&mut dst[0..l1.len()], l1);
+    keys::put(&mut dst[l1.len()..end], l2);
 }

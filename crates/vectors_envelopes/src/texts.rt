@@ -48,7 +48,14 @@ fn others() {
 }
 
 // A keyless envelope at (0, 0, 0) with a domain and a forest of 2 bytes and these four lengths before them.
-fn worded(name: &[u8], kdf: u32, kdf_parameters: u32, agreement: u32, agreement_parameters: u32, bodies: &[u8]) {
+fn worded(
+    name: &[u8],
+    kdf: u32,
+    kdf_parameters: u32,
+    agreement: u32,
+    agreement_parameters: u32,
+    bodies: &[u8],
+) {
     let before = 80 + kdf as usize + kdf_parameters as usize;
     let len = before + agreement as usize + agreement_parameters as usize + 4;
     let mut s = io::large_buffer();
@@ -56,7 +63,18 @@ fn worded(name: &[u8], kdf: u32, kdf_parameters: u32, agreement: u32, agreement_
         &mut s,
         FRONT,
         b"",
-        [kdf, kdf_parameters, agreement, agreement_parameters, 0, 0, 0, 0, 2, 2],
+        [
+            kdf,
+            kdf_parameters,
+            agreement,
+            agreement_parameters,
+            0,
+            0,
+            0,
+            0,
+            2,
+            2,
+        ],
     );
     cases::bytes(&mut s, 80, bodies);
     print(read(Line::new().text(name), cases::first(&s, len)));

@@ -59,7 +59,15 @@ fn orders() {
 
 // An envelope at (5, l1, 7) written into `room` bytes, whose KDF algorithm is the first n bytes of this letter and a zero, with
 // KDF parameters and an L1 key of so many zeros.
-fn write(name: &[u8], room: usize, l1: u32, letter: u8, n: usize, kdf_parameters: usize, l1_key: usize) {
+fn write(
+    name: &[u8],
+    room: usize,
+    l1: u32,
+    letter: u8,
+    n: usize,
+    kdf_parameters: usize,
+    l1_key: usize,
+) {
     let kdf = [letter, 0];
     let zeros = io::large_buffer();
     let mut out = [FILL; 200];
@@ -98,7 +106,13 @@ fn written(
     line
 }
 
-fn write_into(out: &mut [u8], l1: u32, kdf: &[u8], kdf_parameters: &[u8], l1_key: &[u8]) -> Written {
+fn write_into(
+    out: &mut [u8],
+    l1: u32,
+    kdf: &[u8],
+    kdf_parameters: &[u8],
+    l1_key: &[u8],
+) -> Written {
     let empty = [0; 2];
     let text = &empty[..];
     let none = cases::first(text, 0);

@@ -51,6 +51,24 @@ lent done bs s a e {now} {last} n p b h l =
 pub onto-none : (s : List ℕ) → onto [] s ≡ s
 onto-none s = onto-in [] s (omega arith)
 
+-- Two bodies, each put into its own part of s, one behind the other.
+pub lent-two : (a b s : List ℕ) {put last : List ℕ} → length a + length b ≤ length s → put ≡ onto a (midOf 0 (length a - 0) s)
+    → last ≡ onto b (midOf (length a) (length a + length b - length a) (putMid 0 (length a - 0) s put))
+    → putMid (length a) (length a + length b - length a) (putMid 0 (length a - 0) s put) last ≡ onto (a ++ b) s
+lent-two a b s h first second = lent a b s (length a) (length a + length b) (lent [] a s 0 (length a) (sym (onto-none s)) refl (omega arith) (omega arith) first) refl refl h second
+
+-- A record so far, `done`, and two bodies put behind it into one lent part.
+pub lent-pair : (done a b s : List ℕ) (n : ℕ) {now last : List ℕ} → now ≡ onto done s → length done ≡ n → n + length a + length b ≤ length s
+    → last ≡ onto (a ++ b) (midOf n (n + length a + length b - n) now)
+    → (putMid n (n + length a + length b - n) now last ≡ onto (done ++ (a ++ b)) s) × (length (done ++ (a ++ b)) ≡ n + length a + length b)
+lent-pair done a b s n so-far size h put =
+    let two : n + length (a ++ b) ≡ n + length a + length b = ap (λ m. n + m) (length-append a b) ∙ omega arith in
+    (lent done (a ++ b) s n (n + length a + length b) so-far size two h put, length-append done (a ++ b) ∙ ap (λ m. m + length (a ++ b)) size ∙ two)
+
+-- and a part of that length has room for them
+pub pair-room : (n a b : ℕ) → a + b ≤ n + a + b - n
+pair-room n a b = omega arith
+
 -- Numbers one after the other: their length, and one more of them.
 pub length-le32Bytes : (xs : List ℕ) → length (le32Bytes xs) ≡ 4 * length xs
 unfolding le32Bytes joined

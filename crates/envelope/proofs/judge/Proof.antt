@@ -1,42 +1,14 @@
-use borrow.Author.Needs.{needs}
+-- `judge`: the checks of the head, then those of the layout.
+use Rattle.lemmas.proofs.Basics.{sym, _∙_, needs}
+use Rattle.refusal.proofs.Chains.{stops, follows}
+use Rattle.envelope.specs.Reading.{headChecks, layoutChecks, envelopeChecks}
 use Rattle.envelope.proofs.judge.Statement.{statement}
 use Rattle.envelope.proofs.judge.Tie as tie
-use Rattle.envelope.proofs.judge.Reads as reads
-use Rattle.envelope.proofs.judge.Lts as lts
-use Rattle.envelope.proofs.judge_head.Reads as judge-head-reads
-use Rattle.envelope.proofs.judge_layout.Reads as judge-layout-reads
-
--- src/lib.rt:164:11
-judge-head-requires : tie.Need-judge-head-requires
-judge-head-requires c κs = search needs
-
--- src/lib.rt:166:13
-enum-told : tie.Need-enum-told
-enum-told c = search needs
-
--- src/lib.rt:166:13
-judge-layout-requires : tie.Need-judge-layout-requires
-judge-layout-requires c κs = search needs
-
--- src/lib.rt:166:13
-returns : tie.Need-returns
-returns c = ?
-
--- src/lib.rt:168:26
-enum-known-refusal : tie.Need-enum-known-refusal
-enum-known-refusal c = search needs
-
--- src/lib.rt:169:13
-returns-2 : tie.Need-returns-2
-returns-2 c = ?
 
 pub judge-spec : {M : Type 1} → statement M
-judge-spec =
-    tie.close
-    (tie.spec
-    judge-head-requires
-    enum-told
-    judge-layout-requires
-    returns
-    enum-known-refusal
-    returns-2)
+unfolding envelopeChecks
+judge-spec = tie.close (tie.spec
+    (λ c κs. search needs) (λ c. search needs) (λ c κs. search needs)
+    (λ c. follows (headChecks _) (layoutChecks _) (c .before .before .before .judge-head .ensures) (c .before .enum-told .given .1) (c .judge-layout .ensures))
+    (λ c. search needs)
+    (λ c. sym (c .before .refusal .given .1) ∙ stops (headChecks _) (layoutChecks _) (c .before .before .before .judge-head .ensures) (c .before .refusal .given .1)))

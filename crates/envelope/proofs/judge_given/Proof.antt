@@ -1,90 +1,63 @@
-use borrow.Author.Needs.{needs}
+-- `judge_given`: the checks that can apply, one after the other.
+use Rattle.lemmas.proofs.Basics.{_≤_, _<_, arith, sym, _∙_, needs, lt-ltb, le-ltb}
+use Rattle.refusal.specs.Chain.{firstOf}
+use Rattle.refusal.proofs.Chains.{first-next, then-first}
+use Rattle.envelope.specs.Reading.{fourTexts, bodyChecks}
+use Rattle.envelope.specs.Writing.{given, envelopeLength}
+use Rattle.envelope.proofs.Writing.{Fit, write-checks}
 use Rattle.envelope.proofs.judge_given.Statement.{statement}
 use Rattle.envelope.proofs.judge_given.Tie as tie
-use Rattle.envelope.proofs.judge_given.Reads as reads
-use Rattle.envelope.proofs.judge_given.Lts as lts
-use Rattle.envelope.proofs.capped.Reads as capped-reads
-use Rattle.envelope.proofs.judge_keys.Reads as judge-keys-reads
-use Rattle.gkid.proofs.Gkid.index_above_31.Reads as index-above-31-reads
-use Rattle.refusal.proofs.Outcome.then.Reads as then-reads
-use Rattle.text.proofs.judge.Reads as judge-reads
 
--- src/lib.rt:426:9
-capped-requires : tie.Need-capped-requires
-capped-requires c κs = search needs
+fits : (c : tie.Start) → Fit (c .args .head)
+fits c =
+    let own = c .good .0 in
+    record {
+      version = omega (arith, own);
+      flags = omega (arith, own);
+      l0 = omega (arith, own);
+      l1 = omega (arith, own);
+      l2 = omega (arith, own);
+      high = omega (arith, own);
+      low = omega (arith, own);
+      private-length = omega (arith, own);
+      public-length = omega (arith, own);
+    }
 
--- src/lib.rt:434:11
-capped-requires-2 : tie.Need-capped-requires-2
-capped-requires-2 c κs = search needs
+-- the length was capped: what is not over the limit is whole
+within : (c : tie.Else1) → (let a = c .before .before .before .before .before .before .before .before .before .before .before .args in
+    envelopeLength (given (a .kdf .now) (a .kdf-parameters .now) (a .agreement .now) (a .agreement-parameters .now) (a .domain .now) (a .forest .now) (a .l1-key .now) (a .l2-key .now)) ≤ 65535)
+within c = omega arith
 
--- src/lib.rt:442:9
 returns : tie.Need-returns
-returns c = ?
+unfolding firstOf
+returns c =
+    let start = c .before .before .before .before .before .before .before .before .before .before .before in
+    let a = start .args in
+    let g = given (a .kdf .now) (a .kdf-parameters .now) (a .agreement .now) (a .agreement-parameters .now) (a .domain .now) (a .forest .now) (a .l1-key .now) (a .l2-key .now) in
+    let over : 65535 < envelopeLength g = omega arith in
+    sym (write-checks _ g (fits start) ∙ rw (lt-ltb 65535 _ over))
 
--- src/lib.rt:445:8
-index-above-31-requires : tie.Need-index-above-31-requires
-index-above-31-requires c κs = search needs
-
--- src/lib.rt:446:9
 returns-2 : tie.Need-returns-2
-returns-2 c = ?
+unfolding firstOf
+returns-2 c = let e = c .before .before .before in let start = e .before .before .before .before .before .before .before .before .before .before .before in
+    sym (write-checks _ _ (fits start) ∙ rw (le-ltb 65535 _ (within e), sym (c .before .index-above-31 .ensures) ∙ c .if2 .taken))
 
--- src/lib.rt:448:5
-judge-requires : tie.Need-judge-requires
-judge-requires c κs = search needs
-
--- src/lib.rt:449:15
-judge-requires-2 : tie.Need-judge-requires-2
-judge-requires-2 c κs = search needs
-
--- src/lib.rt:448:5
-then-requires : tie.Need-then-requires
-then-requires c κs = search needs
-
--- src/lib.rt:450:15
-judge-requires-3 : tie.Need-judge-requires-3
-judge-requires-3 c κs = search needs
-
--- src/lib.rt:448:5
-then-requires-2 : tie.Need-then-requires-2
-then-requires-2 c κs = search needs
-
--- src/lib.rt:451:15
-judge-requires-4 : tie.Need-judge-requires-4
-judge-requires-4 c κs = search needs
-
--- src/lib.rt:448:5
-then-requires-3 : tie.Need-then-requires-3
-then-requires-3 c κs = search needs
-
--- src/lib.rt:452:15
-judge-keys-requires : tie.Need-judge-keys-requires
-judge-keys-requires c κs = search needs
-
--- src/lib.rt:448:5
-then-requires-4 : tie.Need-then-requires-4
-then-requires-4 c κs = search needs
-
--- src/lib.rt:413:1
 returns-3 : tie.Need-returns-3
-returns-3 c = ?
+unfolding bodyChecks fourTexts
+returns-3 c =
+    let keys = c .before in let forest = keys .before .before in let domain = forest .before .before in let agreement = domain .before .before in
+    let i = agreement .before .before in let e = i .before .before .before in
+    let start = e .before .before .before .before .before .before .before .before .before .before .before in
+    c .then4 .ensures
+    ∙ then-first _ _ (keys .before .then3 .ensures ∙ then-first _ _ (forest .before .then2 .ensures ∙ then-first _ _ (domain .before .then .ensures ∙ then-first _ _ (agreement .before .judge .ensures) (agreement .judge2 .ensures)) (domain .judge3 .ensures)) (forest .judge4 .ensures)) (keys .judge-keys .ensures)
+    ∙ sym (write-checks _ _ (fits start) ∙ first-next _ _ _ (le-ltb 65535 _ (within e)) ∙ first-next _ _ _ (sym (i .before .index-above-31 .ensures) ∙ i .if2 .left))
 
 pub judge-given-spec : {M : Type 1} → statement M
-judge-given-spec =
-    tie.close
-    (tie.spec
-    capped-requires
-    capped-requires-2
+judge-given-spec = tie.close (tie.spec
+    (λ c κs. search needs) (λ c κs. search needs)
     returns
-    index-above-31-requires
+    (λ c κs. search needs)
     returns-2
-    judge-requires
-    judge-requires-2
-    then-requires
-    judge-requires-3
-    then-requires-2
-    judge-requires-4
-    then-requires-3
-    judge-keys-requires
-    then-requires-4
+    (λ c κs. search needs) (λ c κs. search needs) (λ c κs. search needs) (λ c κs. search needs) (λ c κs. search needs)
+    (λ c κs. search needs) (λ c κs. search needs) (λ c κs. search needs) (λ c κs. search needs)
     returns-3)

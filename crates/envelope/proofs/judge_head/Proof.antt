@@ -1,29 +1,16 @@
-use borrow.Author.Needs.{needs}
+-- `judge_head`: the length, and the number at the mark's place.
+use Rattle.lemmas.proofs.Basics.{needs, lt-ltb, le-ltb, eq-eqb, ne-eqb}
+use Rattle.refusal.specs.Chain.{firstOf}
+use Rattle.wire.specs.Numbers.{leOf}
+use Rattle.envelope.specs.Reading.{headChecks}
 use Rattle.envelope.proofs.judge_head.Statement.{statement}
 use Rattle.envelope.proofs.judge_head.Tie as tie
-use Rattle.envelope.proofs.judge_head.Reads as reads
-use Rattle.envelope.proofs.judge_head.Lts as lts
-use Rattle.wire.proofs.le32_at.Reads as le32-at-reads
-
--- src/lib.rt:179:9
-returns : tie.Need-returns
-returns c = ?
-
--- src/lib.rt:182:9
-returns-2 : tie.Need-returns-2
-returns-2 c = ?
-
--- src/lib.rt:184:8
-le32-at-requires : tie.Need-le32-at-requires
-le32-at-requires c κs = search needs
-
--- src/lib.rt:185:9
-returns-3 : tie.Need-returns-3
-returns-3 c = ?
-
--- src/lib.rt:175:1
-returns-4 : tie.Need-returns-4
-returns-4 c = ?
 
 pub judge-head-spec : {M : Type 1} → statement M
-judge-head-spec = tie.close (tie.spec returns returns-2 le32-at-requires returns-3 returns-4)
+unfolding headChecks firstOf leOf
+judge-head-spec = tie.close (tie.spec
+    (λ c. rw (lt-ltb _ _ (c .if1 .taken)))
+    (λ c. rw (le-ltb _ _ (c .before .if1 .left), lt-ltb _ _ (c .if2 .taken)))
+    (λ c κs. search needs)
+    (λ c. rw (le-ltb _ _ (c .before .before .before .if1 .left), le-ltb _ _ (c .before .before .if2 .left), ← (c .before .le32-at .ensures), ne-eqb _ _ (c .if3 .taken)))
+    (λ c. rw (le-ltb _ _ (c .before .before .before .if1 .left), le-ltb _ _ (c .before .before .if2 .left), ← (c .before .le32-at .ensures), eq-eqb _ _ (c .if3 .left))))

@@ -1,99 +1,38 @@
-use borrow.Author.Needs.{needs}
+-- `judge_texts`: the first text that is refused, or the last one's outcome.
+use Rattle.lemmas.proofs.Basics.{sym, _∙_, needs}
+use Rattle.refusal.specs.Chain.{unlessRefused}
+use Rattle.refusal.proofs.Chains.{first-append}
+use Rattle.envelope.specs.Reading.{fourTexts}
 use Rattle.envelope.proofs.judge_texts.Statement.{statement}
 use Rattle.envelope.proofs.judge_texts.Tie as tie
-use Rattle.envelope.proofs.judge_texts.Reads as reads
-use Rattle.envelope.proofs.judge_texts.Lts as lts
-use Rattle.text.proofs.judge.Reads as judge-reads
-use Rattle.wire.proofs.part.Reads as part-reads
 
--- src/lib.rt:232:52
-part-requires : tie.Need-part-requires
-part-requires c κs = search needs
-
--- src/lib.rt:232:40
-judge-requires : tie.Need-judge-requires
-judge-requires c κs = search needs
-
--- src/lib.rt:232:29
-enum-known-refusal : tie.Need-enum-known-refusal
-enum-known-refusal c = search needs
-
--- src/lib.rt:233:9
 returns : tie.Need-returns
-returns c = ?
+unfolding fourTexts unlessRefused
+returns c = let j = c .before .before .before in
+    rw (first-append, first-append, first-append, ← (j .before .part .ensures .0), sym (j .judge .ensures) ∙ c .before .refusal .given .1)
 
-enum-told : tie.Need-enum-told
-enum-told c = search needs
-
--- src/lib.rt:235:52
-part-requires-2 : tie.Need-part-requires-2
-part-requires-2 c κs = search needs
-
--- src/lib.rt:235:40
-judge-requires-2 : tie.Need-judge-requires-2
-judge-requires-2 c κs = search needs
-
--- src/lib.rt:235:29
-enum-known-refusal-2 : tie.Need-enum-known-refusal-2
-enum-known-refusal-2 c = search needs
-
--- src/lib.rt:236:9
 returns-2 : tie.Need-returns-2
-returns-2 c = ?
+unfolding fourTexts unlessRefused
+returns-2 c = let j2 = c .before .before .before in let k = j2 .before .before in let j = k .before .before in
+    rw (first-append, first-append, first-append, ← (j .before .part .ensures .0), sym (j .judge .ensures) ∙ k .enum-told .given .1, ← (j2 .before .part2 .ensures .0), sym (j2 .judge2 .ensures) ∙ c .before .refusal2 .given .1)
 
-enum-told-2 : tie.Need-enum-told-2
-enum-told-2 c = search needs
-
--- src/lib.rt:238:52
-part-requires-3 : tie.Need-part-requires-3
-part-requires-3 c κs = search needs
-
--- src/lib.rt:238:40
-judge-requires-3 : tie.Need-judge-requires-3
-judge-requires-3 c κs = search needs
-
--- src/lib.rt:238:29
-enum-known-refusal-3 : tie.Need-enum-known-refusal-3
-enum-known-refusal-3 c = search needs
-
--- src/lib.rt:239:9
 returns-3 : tie.Need-returns-3
-returns-3 c = ?
+unfolding fourTexts unlessRefused
+returns-3 c = let j3 = c .before .before .before in let a = j3 .before .before in let j2 = a .before .before in let k = j2 .before .before in let j = k .before .before in
+    rw (first-append, first-append, first-append, ← (j .before .part .ensures .0), sym (j .judge .ensures) ∙ k .enum-told .given .1, ← (j2 .before .part2 .ensures .0), sym (j2 .judge2 .ensures) ∙ a .enum-told2 .given .1, ← (j3 .before .part3 .ensures .0), sym (j3 .judge3 .ensures) ∙ c .before .refusal3 .given .1)
 
-enum-told-3 : tie.Need-enum-told-3
-enum-told-3 c = search needs
-
--- src/lib.rt:241:17
-part-requires-4 : tie.Need-part-requires-4
-part-requires-4 c κs = search needs
-
--- src/lib.rt:241:5
-judge-requires-4 : tie.Need-judge-requires-4
-judge-requires-4 c κs = search needs
-
--- src/lib.rt:229:1
 returns-4 : tie.Need-returns-4
-returns-4 c = ?
+unfolding fourTexts unlessRefused
+returns-4 c = let d = c .before .before in let j3 = d .before .before in let a = j3 .before .before in let j2 = a .before .before in let k = j2 .before .before in let j = k .before .before in
+    rw (first-append, first-append, first-append, ← (j .before .part .ensures .0), sym (j .judge .ensures) ∙ k .enum-told .given .1, ← (j2 .before .part2 .ensures .0), sym (j2 .judge2 .ensures) ∙ a .enum-told2 .given .1, ← (j3 .before .part3 .ensures .0), sym (j3 .judge3 .ensures) ∙ d .enum-told3 .given .1, ← (c .before .part4 .ensures .0)) (c .judge4 .ensures)
 
 pub judge-texts-spec : {M : Type 1} → statement M
-judge-texts-spec =
-    tie.close
-    (tie.spec
-    part-requires
-    judge-requires
-    enum-known-refusal
+judge-texts-spec = tie.close (tie.spec
+    (λ c κs. search needs) (λ c κs. search needs) (λ c. search needs)
     returns
-    enum-told
-    part-requires-2
-    judge-requires-2
-    enum-known-refusal-2
+    (λ c. search needs) (λ c κs. search needs) (λ c κs. search needs) (λ c. search needs)
     returns-2
-    enum-told-2
-    part-requires-3
-    judge-requires-3
-    enum-known-refusal-3
+    (λ c. search needs) (λ c κs. search needs) (λ c κs. search needs) (λ c. search needs)
     returns-3
-    enum-told-3
-    part-requires-4
-    judge-requires-4
+    (λ c. search needs) (λ c κs. search needs) (λ c κs. search needs)
     returns-4)

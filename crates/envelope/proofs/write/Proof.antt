@@ -1,90 +1,44 @@
+-- `write`: the judge's refusal, 13, or the envelope's length and the envelope put.
+use Rattle.lemmas.proofs.Basics.{_≤_, arith, refl, sym, ap, _∙_, length, needs}
+use Rattle.wire.proofs.Writing.{length-onto}
+use Rattle.records.specs.Writing.{outputOf}
+use Rattle.records.proofs.Laws.{refuses, lacks-room, writes}
+use Rattle.envelope.specs.Writing.{given, envelopeLength}
+use Rattle.envelope.proofs.Writing.{within-limit}
 use Rattle.envelope.proofs.write.Statement.{statement}
 use Rattle.envelope.proofs.write.Tie as tie
-use Rattle.envelope.proofs.write.Reads as reads
-use Rattle.envelope.proofs.write.Lts as lts
-use Rattle.envelope.proofs.judge_given.Reads as judge-given-reads
-use Rattle.envelope.proofs.put.Reads as put-reads
 
--- src/lib.rt:372:40
-judge-given-requires : tie.Need-judge-given-requires
-judge-given-requires c κs = ?
-
--- src/lib.rt:372:29
-enum-known-refusal : tie.Need-enum-known-refusal
-enum-known-refusal c = ?
-
--- src/lib.rt:383:9
 returns : tie.Need-returns
-returns c = ?
+unfolding outputOf
+returns c = let j = c .before .before .before in
+    (refuses _ _ (j .judge-given .ensures) (c .before .refusal .given .1), refl)
 
-enum-told : tie.Need-enum-told
-enum-told c = ?
+-- what was judged accepted is within the limit
+fits : (c : tie.After-enum-told) → (let a = c .before .before .before .before .before .before .before .before .before .before .before .before .args in
+    envelopeLength (given (a .kdf .now) (a .kdf-parameters .now) (a .agreement .now) (a .agreement-parameters .now) (a .domain .now) (a .forest .now) (a .l1-key .now) (a .l2-key .now)) ≤ 65535)
+fits c = within-limit _ _ (sym (c .before .before .judge-given .ensures) ∙ c .enum-told .given .1)
 
--- src/lib.rt:385:15
-add-len : tie.Need-add-len
-add-len c = ?
-
--- src/lib.rt:385:15
-add-len-2 : tie.Need-add-len-2
-add-len-2 c = ?
-
--- src/lib.rt:385:15
-add-len-3 : tie.Need-add-len-3
-add-len-3 c = ?
-
--- src/lib.rt:385:15
-add-len-4 : tie.Need-add-len-4
-add-len-4 c = ?
-
--- src/lib.rt:385:15
-add-len-5 : tie.Need-add-len-5
-add-len-5 c = ?
-
--- src/lib.rt:385:15
-add-len-6 : tie.Need-add-len-6
-add-len-6 c = ?
-
--- src/lib.rt:385:15
-add-len-7 : tie.Need-add-len-7
-add-len-7 c = ?
-
--- src/lib.rt:385:15
-add-len-8 : tie.Need-add-len-8
-add-len-8 c = ?
-
--- src/lib.rt:395:9
 returns-2 : tie.Need-returns-2
-returns-2 c = ?
+unfolding outputOf
+returns-2 c = let j = c .before .before .before in
+    (lacks-room _ _ (j .judge-given .ensures) (c .before .enum-told .given .1) (c .if1 .taken), refl)
 
--- src/lib.rt:397:5
 put-requires : tie.Need-put-requires
-put-requires c κs = ?
+put-requires c κs = (fits (c .before .before), c .before .if1 .left)
 
--- src/lib.rt:357:1
-same-length : tie.Need-same-length
-same-length c = ?
-
--- src/lib.rt:357:1
 returns-3 : tie.Need-returns-3
-returns-3 c = ?
+unfolding outputOf
+returns-3 c = let p = c .before .before in let e = p .before .before .before in
+    (writes _ _ (e .before .before .judge-given .ensures) (e .enum-told .given .1) (p .before .before .if1 .left), p .put .ensures)
 
 pub write-spec : {M : Type 1} → statement M
-write-spec =
-    tie.close
-    (tie.spec
-    judge-given-requires
-    enum-known-refusal
+write-spec = tie.close (tie.spec
+    (λ c κs. search needs) (λ c. search needs)
     returns
-    enum-told
-    add-len
-    add-len-2
-    add-len-3
-    add-len-4
-    add-len-5
-    add-len-6
-    add-len-7
-    add-len-8
+    (λ c. search needs) (λ c. search needs)
+    (λ c. omega (arith, fits c)) (λ c. omega (arith, fits c)) (λ c. omega (arith, fits c)) (λ c. omega (arith, fits c))
+    (λ c. omega (arith, fits c)) (λ c. omega (arith, fits c)) (λ c. omega (arith, fits c))
     returns-2
     put-requires
-    same-length
+    (λ c. search needs)
     returns-3)
