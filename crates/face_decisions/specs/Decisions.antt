@@ -25,7 +25,7 @@ abbrev pub rootFrom : ℕ → RootBytes → Root
 rootFrom given id = cond (eqb given 1) (root.Given (rootIdFrom id)) root.None
 
 abbrev pub requestFrom : RequestIndices → Request
-requestFrom q = record { root = rootFrom (q .given) (q .root); l0 = q .l0; l1 = q .l1; l2 = q .l2 }
+requestFrom q = record { root = rootFrom (q .«root_given») (q .root); l0 = q .l0; l1 = q .l1; l2 = q .l2 }
 
 -- 1 with a root row, 2 for a root key to create, 0 on a refusal
 unfoldable pub grantCode : Answer → ℕ

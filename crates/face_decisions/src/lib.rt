@@ -11,10 +11,10 @@ use getkey::Rights;
 use request::Request;
 use request::Root;
 
-// A request: given is 1 where a root key is named; -1 in the three indices asks for the latest.
+// A request: root_given is 1 where a root key is named; -1 in the three indices asks for the latest.
 #[repr(C)]
 pub struct RequestIndices {
-    pub given: u32,
+    pub root_given: u32,
     pub l0: i32,
     pub l1: i32,
     pub l2: i32,
@@ -47,7 +47,7 @@ pub fn request_from(asked: RequestIndices) -> Request
     ensures { λ r. ⌜ r ≡ requestFrom asked ⌝ }
 {
     Request {
-        root: root_from(asked.given, asked.root),
+        root: root_from(asked.root_given, asked.root),
         l0: asked.l0,
         l1: asked.l1,
         l2: asked.l2,

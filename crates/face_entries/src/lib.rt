@@ -1,14 +1,16 @@
 // Document 01, "Key List Entry and list", as C has its answers: the entry, the list judged whole, and one step of its walk.
 ghost use mathlib.Core.Path.{_≡_};
+ghost use Rattle.keyentry.specs.declared.EntryRead.the-variants as read;
 ghost use Rattle.face_entries.specs.Entries.{algorithmCode, entryAnswer};
 ghost use Rattle.face_entries.specs.Lists.{listAnswer, stepAnswer, noEntry};
 use face::Part;
 use face::to_part;
 use keyentry::Algorithm;
-use keyentry::EntryRead;
+use keyentry::Entry;
 use keylist::Advance;
 use keylist::ListRead;
 use keylist::Step;
+use refusal::Refusal;
 
 // An entry. Its algorithm is 1 for RSA, 2 for AES-256, 3 for one that is not supported.
 #[repr(C)]
@@ -45,26 +47,29 @@ pub struct StepAnswer {
     pub fek: Part,
 }
 
-pub fn entry_answer(read: EntryRead) -> EntryAnswer
-    ensures { λ r. ⌜ r ≡ entryAnswer read ⌝ }
+pub fn entry_answer(entry: Entry) -> EntryAnswer
+    ensures { λ r. ⌜ r ≡ entryAnswer (read.Accepted entry) ⌝ }
 {
-    match read {
-        EntryRead::Accepted(entry) => EntryAnswer {
-            refusal: 0,
-            algorithm: algorithm_code(entry.algorithm()),
-            flags: entry.flags,
-            reserved: 0,
-            item: to_part(entry.item),
-            fek: to_part(entry.fek),
-        },
-        EntryRead::Refused(refusal) => EntryAnswer {
-            refusal: refusal.number(),
-            algorithm: 0,
-            flags: 0,
-            reserved: 0,
-            item: Part { at: 0, len: 0 },
-            fek: Part { at: 0, len: 0 },
-        },
+    EntryAnswer {
+        refusal: 0,
+        algorithm: algorithm_code(entry.algorithm()),
+        flags: entry.flags,
+        reserved: 0,
+        item: to_part(entry.item),
+        fek: to_part(entry.fek),
+    }
+}
+
+pub fn entry_refused(refusal: Refusal) -> EntryAnswer
+    ensures { λ r. ⌜ r ≡ entryAnswer (read.Refused refusal) ⌝ }
+{
+    EntryAnswer {
+        refusal: refusal.number(),
+        algorithm: 0,
+        flags: 0,
+        reserved: 0,
+        item: Part { at: 0, len: 0 },
+        fek: Part { at: 0, len: 0 },
     }
 }
 

@@ -55,7 +55,7 @@ noEnvelope refusal =
     record {
       refusal = refusal;
       form = 0;
-      public = 0;
+      «is_public» = 0;
       head =
           record {
             version = 0;
@@ -83,7 +83,7 @@ envelopeAnswer (Accepted e) =
     record {
       refusal = 0;
       form = formCode (formOf e);
-      public = boolCode (isPublic (e .head .flags));
+      «is_public» = boolCode (isPublic (e .head .flags));
       head = headShown (e .head);
       bodies = bodiesShown (e .bodies);
     }

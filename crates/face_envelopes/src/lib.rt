@@ -1,8 +1,9 @@
 // Document 01, "Group Key Envelope", as C has its answer, and the head as C hands it in.
 ghost use mathlib.Core.Path.{_≡_};
-ghost use Rattle.face_envelopes.specs.Envelopes.{headShown, headFrom, bodiesShown, envelopeAnswer, noEnvelope};
+ghost use Rattle.envelope.specs.declared.EnvelopeRead.the-variants as read;
+ghost use Rattle.face_envelopes.specs.Envelopes.{headShown, headFrom, bodiesShown, envelopeAnswer};
 use envelope::Bodies;
-use envelope::EnvelopeRead;
+use envelope::Envelope;
 use envelope::Head;
 use face::Identifier;
 use face::Part;
@@ -14,6 +15,7 @@ use face::to_gkid;
 use face::to_identifier;
 use face::to_part;
 use face::to_root;
+use refusal::Refusal;
 use wire::Span;
 
 // The head's values, as a reader shows them and a writer takes them.
@@ -45,7 +47,7 @@ pub struct EnvelopeBodies {
 pub struct EnvelopeAnswer {
     pub refusal: u32,
     pub form: u32,
-    pub public: u32,
+    pub is_public: u32,
     pub head: EnvelopeHead,
     pub bodies: EnvelopeBodies,
 }
@@ -63,22 +65,50 @@ pub fn head_from(given: EnvelopeHead) -> Head
     }
 }
 
-pub fn envelope_answer(read: EnvelopeRead) -> EnvelopeAnswer
-    ensures { λ r. ⌜ r ≡ envelopeAnswer read ⌝ }
+pub fn envelope_answer(envelope: Envelope) -> EnvelopeAnswer
+    ensures { λ r. ⌜ r ≡ envelopeAnswer (read.Accepted envelope) ⌝ }
 {
-    match read {
-        EnvelopeRead::Accepted(envelope) => {
-            let head = envelope.head;
-            let bodies = envelope.bodies;
-            EnvelopeAnswer {
-                refusal: 0,
-                form: form_code(envelope::form_of(envelope)),
-                public: bool_code(envelope::is_public(head.flags)),
-                head: head_answer(head),
-                bodies: bodies_answer(bodies),
-            }
-        }
-        EnvelopeRead::Refused(refusal) => no_envelope(refusal.number()),
+    let head = envelope.head;
+    let bodies = envelope.bodies;
+    EnvelopeAnswer {
+        refusal: 0,
+        form: form_code(envelope::form_of(envelope)),
+        is_public: bool_code(envelope::is_public(head.flags)),
+        head: head_answer(head),
+        bodies: bodies_answer(bodies),
+    }
+}
+
+pub fn envelope_refused(refusal: Refusal) -> EnvelopeAnswer
+    ensures { λ r. ⌜ r ≡ envelopeAnswer (read.Refused refusal) ⌝ }
+{
+    let none = Span { at: 0, len: 0 };
+    EnvelopeAnswer {
+        refusal: refusal.number(),
+        form: 0,
+        is_public: 0,
+        head: EnvelopeHead {
+            version: 0,
+            flags: 0,
+            at: Identifier {
+                l0: 0,
+                l1: 0,
+                l2: 0,
+            },
+            root: RootBytes { bytes: [0; 16] },
+            private_length: 0,
+            public_length: 0,
+        },
+        bodies: bodies_answer(Bodies {
+            kdf: none,
+            kdf_parameters: none,
+            agreement: none,
+            agreement_parameters: none,
+            domain: none,
+            forest: none,
+            l1_key: none,
+            l2_key: none,
+        }),
     }
 }
 
@@ -107,39 +137,5 @@ fn bodies_answer(bodies: Bodies) -> EnvelopeBodies
         forest: to_part(bodies.forest),
         l1_key: to_part(bodies.l1_key),
         l2_key: to_part(bodies.l2_key),
-    }
-}
-
-// A refused envelope: its number, and zeros.
-fn no_envelope(refusal: u32) -> EnvelopeAnswer
-    ensures { λ r. ⌜ r ≡ noEnvelope refusal ⌝ }
-{
-    let none = Span { at: 0, len: 0 };
-    EnvelopeAnswer {
-        refusal,
-        form: 0,
-        public: 0,
-        head: EnvelopeHead {
-            version: 0,
-            flags: 0,
-            at: Identifier {
-                l0: 0,
-                l1: 0,
-                l2: 0,
-            },
-            root: RootBytes { bytes: [0; 16] },
-            private_length: 0,
-            public_length: 0,
-        },
-        bodies: bodies_answer(Bodies {
-            kdf: none,
-            kdf_parameters: none,
-            agreement: none,
-            agreement_parameters: none,
-            domain: none,
-            forest: none,
-            l1_key: none,
-            l2_key: none,
-        }),
     }
 }

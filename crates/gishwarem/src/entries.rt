@@ -3,28 +3,36 @@ ghost use mathlib.Core.Path.{_≡_};
 ghost use lib.ListN.{length};
 ghost use Rattle.records.specs.Writing.{outputOf};
 ghost use Rattle.keyentry.specs.Reading.{entryOf};
-ghost use Rattle.keyentry.specs.Writing.{entryBytes};
+ghost use Rattle.keyentry.specs.Writing.{entryBytes, entryWritten};
 ghost use Rattle.keylist.specs.Reading.{listOf};
 ghost use Rattle.keylist.specs.Stepping.{advanceOf};
 ghost use Rattle.face.specs.Shapes.{writtenAnswer};
 ghost use Rattle.face_entries.specs.Entries.{entryAnswer};
 ghost use Rattle.face_entries.specs.Lists.{listAnswer, stepAnswer};
-ghost use Rattle.gishwarem.specs.Writing.{entryWritten};
 use face::WrittenAnswer;
 use face::to_written;
 use face_entries::EntryAnswer;
 use face_entries::ListAnswer;
 use face_entries::StepAnswer;
 use face_entries::entry_answer;
+use face_entries::entry_refused;
 use face_entries::list_answer;
 use face_entries::step_answer;
+use keyentry::EntryRead;
 use keylist::Place;
 
 #[no_mangle]
 pub extern "C" fn gw_entry_read(s: &[u8]) -> EntryAnswer
     ensures { λ r. ⌜ r ≡ entryAnswer (entryOf (now (s .entry))) ⌝ }
 {
-    entry_answer(keyentry::read(s))
+    match keyentry::read(s) {
+        EntryRead::Accepted(entry) => {
+            return entry_answer(entry);
+        }
+        EntryRead::Refused(refusal) => {
+            return entry_refused(refusal);
+        }
+    }
 }
 
 #[no_mangle]

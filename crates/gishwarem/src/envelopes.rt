@@ -3,22 +3,35 @@ ghost use mathlib.Core.Path.{_≡_};
 ghost use lib.ListN.{length};
 ghost use Rattle.records.specs.Writing.{outputOf};
 ghost use Rattle.envelope.specs.Reading.{envelopeOf};
-ghost use Rattle.envelope.specs.Writing.{given, envelopeBytes};
+ghost use Rattle.envelope.specs.Writing.{given, envelopeBytes, envelopeWritten};
 ghost use Rattle.face.specs.Shapes.{writtenAnswer};
 ghost use Rattle.face_envelopes.specs.Envelopes.{headFrom, envelopeAnswer};
-ghost use Rattle.gishwarem.specs.Writing.{envelopeWritten};
+use envelope::EnvelopeRead;
 use face::WrittenAnswer;
 use face::to_written;
 use face_envelopes::EnvelopeAnswer;
 use face_envelopes::EnvelopeHead;
 use face_envelopes::envelope_answer;
+use face_envelopes::envelope_refused;
 use face_envelopes::head_from;
+use refusal::Outcome;
 
+// 1, 2 and 4 are answered before a reader is called.
 #[no_mangle]
 pub extern "C" fn gw_envelope_read(s: &[u8]) -> EnvelopeAnswer
     ensures { λ r. ⌜ r ≡ envelopeAnswer (envelopeOf (now (s .entry))) ⌝ }
 {
-    envelope_answer(envelope::read(s))
+    if let Outcome::Refused(refusal) = envelope::judge_head(s) {
+        return envelope_refused(refusal);
+    }
+    match envelope::read(s) {
+        EnvelopeRead::Accepted(envelope) => {
+            return envelope_answer(envelope);
+        }
+        EnvelopeRead::Refused(refusal) => {
+            return envelope_refused(refusal);
+        }
+    }
 }
 
 #[no_mangle]

@@ -17,7 +17,7 @@ use Rattle.envelope.specs.declared.EnvelopeRead.the-variants as read
 use Rattle.envelope.specs.declared.EnvelopePart.{EnvelopePart}
 use Rattle.envelope.specs.declared.EnvelopePart.the-variants.{L1Key, L2Key}
 use Rattle.envelope.specs.Layout.{isPublic, bodySpan, headOf, bodiesOf}
-use Rattle.envelope.specs.Reading.{envelopeOf, envelopeNumber, shown, spanOf, envelopeBody, formOf}
+use Rattle.envelope.specs.Reading.{envelopeOf, envelopeNumber, shown, spanOf, envelopePart, formOf}
 use Rattle.envelope.proofs.ExactlyWhen.{accepted-well-formed}
 use Rattle.envelope.proofs.Forms.{absent-l1, absent-l2, present}
 use Rattle.serving.specs.declared.SeedKey.{SeedKey}
@@ -56,7 +56,7 @@ above-31-not-served e i h = serves-reached e i ∙ above-31 (keysOf (formOf e)) 
 -- No identifier is reached by both keys of one accepted envelope.
 pub reached-by-one : (s : List ℕ) (i : Gkid) → envelopeNumber (envelopeOf s) ≡ 0 → keysOf (formOf (shown s)) .l1 ≡ true → keysOf (formOf (shown s)) .l2 ≡ true
     → l1Reaches (headOf s .at) i ≡ true → l2Reaches (headOf s .at) i ≡ true → ⊥
-unfolding bodiesOf
+unfolding shown bodiesOf
 reached-by-one s i z k1 k2 = not-by-both _ (headOf s .at) i _ _ _ (accepted-well-formed s z .keys) (present (shown s) .0 k1) (present (shown s) .1 k2)
 
 -- What is handed out for a served identifier is that key's own body.
@@ -80,5 +80,5 @@ served-key (read.Refused q) root i = tt
 served-key (read.Accepted e) root i = cond-cases (KeyOf (read.Accepted e)) (sameRoot (e .head .root) root) (λ _. key-of e i) (λ _. tt)
 
 pub served-part : (s : List ℕ) (root : RootId) (i : Gkid) (key : SeedKey) (span : Span) → servedBy (envelopeOf s) root i ≡ By key span
-    → partOf s (span .at) (span .len) ≡ envelopeBody s (bodyOf key)
+    → partOf s (span .at) (span .len) ≡ envelopePart s (bodyOf key)
 served-part s root i key span e = ap (λ p. partOf s (p .at) (p .len)) (subst (KeyOf (envelopeOf s)) e (served-key (envelopeOf s) root i))

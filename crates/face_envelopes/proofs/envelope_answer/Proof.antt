@@ -1,4 +1,4 @@
--- `envelope_answer`: the reader's answer is told.
+-- `envelope_answer`: what it calls ensures it.
 use Rattle.face_envelopes.specs.Envelopes.{envelopeAnswer}
 use Rattle.lemmas.proofs.Basics.{needs}
 use Rattle.face_envelopes.proofs.envelope_answer.Statement.{statement}
@@ -7,15 +7,10 @@ use Rattle.face_envelopes.proofs.envelope_answer.Tie as tie
 returns : tie.Need-returns
 unfolding envelopeAnswer
 returns c = let f = c .before .before .before .before in
-    rw (f .before .before .before .before .before .read .given .1, c .bodies-answer .ensures, c .before .head-answer .ensures, c .before .before .bool-code .ensures, c .before .before .before .is-public .ensures, f .form-code .ensures, f .before .form-of .ensures)
-
-returns-2 : tie.Need-returns-2
-unfolding envelopeAnswer
-returns-2 c = rw (c .before .before .before .read2 .given .1, c .no-envelope .ensures, c .before .number .ensures)
+    rw (c .bodies-answer .ensures, c .before .head-answer .ensures, c .before .before .bool-code .ensures, c .before .before .before .is-public .ensures, f .form-code .ensures, f .before .form-of .ensures)
 
 pub envelope-answer-spec : {M : Type 1} → statement M
 envelope-answer-spec = tie.close (tie.spec
-    (λ c. search needs) (λ c κs. search needs) (λ c κs. search needs) (λ c κs. search needs) (λ c κs. search needs)
-    (λ c κs. search needs) (λ c κs. search needs) (λ c. search needs) (λ c κs. search needs) (λ c κs. search needs)
-    returns
-    returns-2)
+    (λ c κs. search needs) (λ c κs. search needs) (λ c κs. search needs) (λ c κs. search needs)
+    (λ c κs. search needs) (λ c κs. search needs)
+    returns)

@@ -5,7 +5,7 @@ use Rattle.gishwarem.proofs.envelopes.gw_envelope_write.Statement.{stat
 use Rattle.gishwarem.proofs.envelopes.gw_envelope_write.Tie as tie
 
 returns : tie.Need-returns
-returns c = laid-envelope _ _ (c .before .before .before .before .head-from .ensures) (c .to-written .ensures) (c .before .before .before .write .ensures)
+returns c = laid-envelope _ _ (c .before .before .before .before .head-from .ensures) (c .to-written .ensures) (c .before .before .before .write .ensures .0) (c .before .before .before .write .ensures .1)
 
 pub gw-envelope-write-spec : {M : Type 1} → statement M
 gw-envelope-write-spec = tie.close (tie.spec
