@@ -1,4 +1,4 @@
+pub mod Reading
 pub mod ExactlyWhen
-pub mod Parts
 pub mod Writing
 pub mod ReadBack

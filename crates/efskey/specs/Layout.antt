@@ -29,19 +29,19 @@ abbrev pub certificateOffset : List ℕ → ℕ
 certificateOffset s = leAt 4 s 20
 
 -- 3: unless Length1 is the record's length and Length2 = Length1 - 4
-unfoldable pub lengthsDisagree : ℕ → ℕ → ℕ → Bool
+abbrev pub lengthsDisagree : ℕ → ℕ → ℕ → Bool
 lengthsDisagree L first second = not (eqb first L) || not (eqb (second + 4) first)
 
 -- 6: the certificate offset is under 28, or 4 + offset + length differs from Length1
-unfoldable pub certificateMisplaced : ℕ → ℕ → ℕ → Bool
+abbrev pub certificateMisplaced : ℕ → ℕ → ℕ → Bool
 certificateMisplaced offset len total = ltb offset 28 || not (eqb (4 + offset + len) total)
 
 -- 6: unless the SID offset is 0 or 28
-unfoldable pub sidMisplaced : ℕ → Bool
+abbrev pub sidMisplaced : ℕ → Bool
 sidMisplaced sid = not (eqb sid 0) && not (eqb sid 28)
 
 -- 6: no SID, and the certificate offset is not 28
-unfoldable pub gapWithoutSid : ℕ → ℕ → Bool
+abbrev pub gapWithoutSid : ℕ → ℕ → Bool
 gapWithoutSid sid offset = eqb sid 0 && not (eqb offset 28)
 
 -- the SID area, from 32 to the certificate

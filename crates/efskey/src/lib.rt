@@ -134,7 +134,7 @@ fn do_disagree(length1: u32, length2: u32, len: usize) -> bool
 // The three checks that give 6: the certificate ends the record, and stands behind a SID offset of 28, or straight behind the
 // head where there is none.
 fn is_misplaced(sid: u32, offset: u32, certificate: u32, total: u32) -> bool
-    ensures { λ r. ⌜ r ≡ certificateMisplaced offset certificate total || (sidMisplaced sid || gapWithoutSid sid offset) ⌝ }
+    ensures { λ r. ⌜ r ≡ certificateMisplaced offset certificate total || sidMisplaced sid || gapWithoutSid sid offset ⌝ }
 {
     if 4 + offset as usize + certificate as usize != total as usize {
         return true;

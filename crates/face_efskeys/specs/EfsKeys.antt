@@ -1,14 +1,14 @@
 -- Document 01, "EfsKey", as C has its answer.
-use Rattle.efskey.specs.declared.KeyRead.{KeyRead}
-use Rattle.efskey.specs.declared.KeyPart.the-variants as part
-use Rattle.efskey.specs.Reading.{keyNumber, sidKind, spanOf}
+use Rattle.efskey.specs.declared.EfsKeyRead.{EfsKeyRead}
+use Rattle.efskey.specs.declared.EfsKeyPart.the-variants as part
+use Rattle.efskey.specs.Reading.{efsKeyNumber, sidKind, spanOf}
 use Rattle.face.specs.Shapes.{partShown}
-use Rattle.face_efskeys.specs.declared.KeyAnswer.{KeyAnswer}
+use Rattle.face_efskeys.specs.declared.EfsKeyAnswer.{EfsKeyAnswer}
 
-unfoldable pub keyAnswer : KeyRead → KeyAnswer
-keyAnswer r =
+unfoldable pub efsKeyAnswer : EfsKeyRead → EfsKeyAnswer
+efsKeyAnswer r =
     record {
-      refusal = keyNumber r;
+      refusal = efsKeyNumber r;
       kind = sidKind r;
       sid = partShown (spanOf r part.Sid);
       certificate = partShown (spanOf r part.Certificate);

@@ -2,26 +2,46 @@
 ghost use mathlib.Core.Path.{_≡_};
 ghost use lib.ListN.{length};
 ghost use Rattle.records.specs.Writing.{outputOf};
-ghost use Rattle.efskey.specs.Reading.{keyOf};
-ghost use Rattle.efskey.specs.Writing.{keyBytes, keyWritten};
+ghost use Rattle.efskey.specs.Reading.{efsKeyOf};
+ghost use Rattle.efskey.specs.Writing.{efsKeyBytes, efsKeyWritten};
 ghost use Rattle.face.specs.Shapes.{writtenAnswer};
-ghost use Rattle.face_efskeys.specs.EfsKeys.{keyAnswer};
+ghost use Rattle.face_efskeys.specs.EfsKeys.{efsKeyAnswer};
+use efskey::EfsKeyRead;
+use efskey::SidHint;
 use face::WrittenAnswer;
 use face::to_written;
-use face_efskeys::KeyAnswer;
-use face_efskeys::key_answer;
+use face_efskeys::EfsKeyAnswer;
+use face_efskeys::refused;
+use face_efskeys::with_sid;
+use face_efskeys::without_sid;
 
 #[no_mangle]
-pub extern "C" fn gw_efskey_read(s: &[u8]) -> KeyAnswer
-    ensures { λ r. ⌜ r ≡ keyAnswer (keyOf (now (s .entry))) ⌝ }
+pub extern "C" fn gw_efskey_read(s: &[u8]) -> EfsKeyAnswer
+    ensures { λ r. ⌜ r ≡ efsKeyAnswer (efsKeyOf (now (s .entry))) ⌝ }
 {
-    key_answer(efskey::read(s))
+    match efskey::read(s) {
+        EfsKeyRead::Accepted(key) => {
+            let sid = key.sid;
+            let certificate = key.certificate;
+            match sid {
+                SidHint::None => {
+                    return without_sid(certificate);
+                }
+                SidHint::Sid(span) => {
+                    return with_sid(span, certificate);
+                }
+            }
+        }
+        EfsKeyRead::Refused(refusal) => {
+            return refused(refusal);
+        }
+    }
 }
 
 #[no_mangle]
 pub extern "C" fn gw_efskey_write(out: &mut [u8], sid: &[u8], certificate: &[u8]) -> WrittenAnswer
-    ensures answer { λ r. ⌜ r ≡ writtenAnswer (keyWritten (now (sid .entry)) (now (certificate .entry)) (length (now (out .entry)))) ⌝ }
-    ensures output { λ _. ⌜ now (out .exit) ≡ outputOf (keyWritten (now (sid .entry)) (now (certificate .entry)) (length (now (out .entry)))) (keyBytes (now (sid .entry)) (now (certificate .entry))) (now (out .entry)) ⌝ }
+    ensures answer { λ r. ⌜ r ≡ writtenAnswer (efsKeyWritten (now (sid .entry)) (now (certificate .entry)) (length (now (out .entry)))) ⌝ }
+    ensures output { λ _. ⌜ now (out .exit) ≡ outputOf (efsKeyWritten (now (sid .entry)) (now (certificate .entry)) (length (now (out .entry)))) (efsKeyBytes (now (sid .entry)) (now (certificate .entry))) (now (out .entry)) ⌝ }
 {
     to_written(efskey::write(out, sid, certificate))
 }

@@ -12,6 +12,12 @@ pub cond-else : {A : Type 0} (t : Bool) (x : A) {y z : A} → (t ≡ false → y
 cond-else true x f = refl
 cond-else false x f = f refl
 
+-- three tests, one behind the other, that come to the same are one
+pub cond-any : {A : Type 0} (a b c : Bool) (x y : A) → cond a x (cond b x (cond c x y)) ≡ cond (a || b || c) x y
+cond-any true b c x y = refl
+cond-any false true c x y = refl
+cond-any false false c x y = refl
+
 -- one of two tests holds, or neither
 pub or-false : (a b : Bool) → a || b ≡ false → (a ≡ false) × (b ≡ false)
 or-false true b e = absurd (true≢false e)

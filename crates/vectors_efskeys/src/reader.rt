@@ -1,7 +1,7 @@
 // Keys read.
 use crate::print;
 use crate::put_sid;
-use efskey::KeyRead;
+use efskey::EfsKeyRead;
 use efskey::SidHint;
 use line::Line;
 use wire::Span;
@@ -119,12 +119,12 @@ fn headed(name: &[u8], len: usize, head: [u32; 8]) {
 
 pub fn read(line: Line, s: &[u8]) -> Line {
     match efskey::read(s) {
-        KeyRead::Key(key) => {
+        EfsKeyRead::Accepted(key) => {
             let sid = key.sid;
             let certificate = key.certificate;
             shown(line, sid, certificate)
         }
-        KeyRead::Refused(refusal) => words::refused(line, refusal),
+        EfsKeyRead::Refused(refusal) => words::refused(line, refusal),
     }
 }
 

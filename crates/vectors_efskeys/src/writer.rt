@@ -3,7 +3,7 @@ use crate::print;
 use crate::put_sid;
 use crate::reader;
 use cases::FILL;
-use efskey::KeyPart;
+use efskey::EfsKeyPart;
 use line::Line;
 use records::Written;
 use wire::Span;
@@ -77,10 +77,10 @@ fn read_back(line: Line, s: &[u8], sid: &[u8], certificate: &[u8]) -> Line {
 }
 
 fn parts_compared(line: Line, s: &[u8], sid: &[u8], certificate: &[u8]) -> Line {
-    let compared = cases::compared(line.text(b" "), efskey::part(s, KeyPart::Sid), sid);
+    let compared = cases::compared(line.text(b" "), efskey::part(s, EfsKeyPart::Sid), sid);
     cases::compared(
         compared.text(b" "),
-        efskey::part(s, KeyPart::Certificate),
+        efskey::part(s, EfsKeyPart::Certificate),
         certificate,
     )
 }
@@ -102,8 +102,8 @@ fn rewritten(name: &[u8], reserved2: u32) {
 }
 
 fn rewrite(line: Line, out: &mut [u8], s: &[u8]) -> Line {
-    let sid = efskey::part(s, KeyPart::Sid);
-    let certificate = efskey::part(s, KeyPart::Certificate);
+    let sid = efskey::part(s, EfsKeyPart::Sid);
+    let certificate = efskey::part(s, EfsKeyPart::Certificate);
     let told = words::written(line, efskey::write(out, sid, certificate));
     compared(told, out, s)
 }

@@ -1,26 +1,43 @@
--- `write`: the output is filled where the answer is the record's length.
-use Rattle.lemmas.proofs.Basics.{sym, _∙_, needs}
+-- `write`: the judge's refusal, 13, or the record's length and the record put.
+use Rattle.lemmas.proofs.Basics.{_≤_, arith, refl, sym, _∙_, needs}
 use Rattle.records.specs.Writing.{outputOf}
-use Rattle.efskey.proofs.Writing.{written-well-formed, within-limit}
+use Rattle.records.proofs.Laws.{refuses, lacks-room, writes}
+use Rattle.efskey.specs.Writing.{efsKeyLength}
+use Rattle.efskey.proofs.Writing.{within-limit}
 use Rattle.efskey.proofs.write.Statement.{statement}
 use Rattle.efskey.proofs.write.Tie as tie
 
-fill-requires : tie.Need-fill-requires
-fill-requires c κs =
-    let told = written-well-formed _ _ _ _ (sym (c .before .before .before .answer .ensures) ∙ c .before .enum-told .given .1) in
-    (within-limit _ _ (told .0), told .1)
-
 returns : tie.Need-returns
 unfolding outputOf
-returns c =
-    let told = c .before .before .before .before in
-    (told .before .before .answer .ensures, rw (told .enum-told .given .1) (c .before .before .fill .ensures))
+returns c = (refuses _ _ (c .before .before .before .judge-given .ensures) (c .before .refusal .given .1), refl)
+
+-- what was judged accepted is within the limit
+fits : (c : tie.After-enum-told) → (let a = c .before .before .before .before .before .before .args in efsKeyLength (a .sid .now) (a .certificate .now) ≤ 65535)
+fits c = within-limit _ _ (sym (c .before .before .judge-given .ensures) ∙ c .enum-told .given .1)
+
+add-len-2 : tie.Need-add-len-2
+add-len-2 c = omega (arith, fits c)
 
 returns-2 : tie.Need-returns-2
 unfolding outputOf
-returns-2 c = (c .before .before .answer .ensures, rw (c .enum-told2 .given .1))
+returns-2 c = let e = c .before in
+    (lacks-room _ _ (e .before .before .judge-given .ensures) (e .enum-told .given .1) (c .if1 .taken), refl)
+
+put-requires : tie.Need-put-requires
+put-requires c κs = (fits (c .before .before), c .before .if1 .left)
+
+returns-3 : tie.Need-returns-3
+unfolding outputOf
+returns-3 c = let p = c .before .before in let e = p .before .before .before in
+    (writes _ _ (e .before .before .judge-given .ensures) (e .enum-told .given .1) (p .before .before .if1 .left), p .put .ensures)
 
 pub write-spec : {M : Type 1} → statement M
-write-spec =
-    tie.close
-    (tie.spec (λ c κs. search needs) (λ c. search needs) fill-requires (λ c. search needs) (λ c. search needs) returns returns-2)
+write-spec = tie.close (tie.spec
+    (λ c κs. search needs) (λ c. search needs)
+    returns
+    (λ c. search needs) (λ c. search needs)
+    add-len-2
+    returns-2
+    put-requires
+    (λ c. search needs)
+    returns-3)

@@ -1,8 +1,8 @@
--- `Head::hint`: the area is told.
-use Rattle.efskey.specs.Reading.{hintOf}
+-- `hint`: the area is told.
 use Rattle.lemmas.proofs.Basics.{needs}
-use Rattle.efskey.proofs.Head.hint.Statement.{statement}
-use Rattle.efskey.proofs.Head.hint.Tie as tie
+use Rattle.efskey.specs.Reading.{hintOf}
+use Rattle.efskey.proofs.hint.Statement.{statement}
+use Rattle.efskey.proofs.hint.Tie as tie
 
 pub hint-spec : {M : Type 1} → statement M
 unfolding hintOf

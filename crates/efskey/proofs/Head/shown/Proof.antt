@@ -1,7 +1,0 @@
--- `Head::shown`: the SID's hint, and the certificate from byte 0 on.
-use Rattle.lemmas.proofs.Basics.{needs}
-use Rattle.efskey.proofs.Head.shown.Statement.{statement}
-use Rattle.efskey.proofs.Head.shown.Tie as tie
-
-pub shown-spec : {M : Type 1} → statement M
-shown-spec = tie.close (tie.spec (λ c κs. search needs) (λ c. search needs) (λ c. search needs) (λ c. search needs) (λ c. rw (c .before .before .hint .ensures)))
