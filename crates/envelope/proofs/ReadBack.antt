@@ -13,7 +13,7 @@ use Rattle.envelope.specs.declared.Head.{Head}
 use Rattle.envelope.specs.declared.EnvelopePart.{EnvelopePart}
 use Rattle.envelope.specs.declared.EnvelopePart.the-variants.{Kdf, KdfParameters, Agreement, AgreementParameters, Domain, Forest, L1Key, L2Key}
 use Rattle.envelope.specs.declared.EnvelopeRead.the-variants.{Accepted}
-use Rattle.envelope.specs.Layout.{mark, headOf, lengthsOf, endAt, bodiesOf, bodySpan}
+use Rattle.envelope.specs.Layout.{mark, headOf, lengthsOf, bodiesOf, bodySpan}
 use Rattle.envelope.specs.Reading.{envelopeChecks, shown, envelopeOf, envelopeNumber, spanOf, bodyAt, envelopePart}
 use Rattle.envelope.specs.WellFormed.{WellFormed}
 use Rattle.envelope.specs.Writing.{Given, givenLengths, envelopeBytes, writeChecks}

@@ -1,5 +1,5 @@
 -- An entry is accepted exactly when it is well formed, as MS-EFSR 2.2.2.1.2 states it, narrowed by document 01.
-use Rattle.lemmas.proofs.Basics.{ℕ, _+_, _-_, _≤_, _<_, min, max, arith, min-comm, max-comm, Bool, false, not, List, _⊎_, inl, inr, ⊎-elim, _≡_, ap, ltb, leb, length, le-ltb, ltb-true, ltb-false, leb-true, leb-false, eq-eqb, ne-eqb, eqb-true, eqb-false}
+use Rattle.lemmas.proofs.Basics.{ℕ, _+_, _-_, _≤_, _<_, max, arith, min-comm, max-comm, Bool, false, not, List, _⊎_, inl, inr, ⊎-elim, _≡_, ap, ltb, leb, length, le-ltb, ltb-true, ltb-false, leb-true, leb-false, eq-eqb, ne-eqb, eqb-true, eqb-false}
 use Rattle.lemmas.proofs.Cases.{by-cases, not-false}
 use Rattle.refusal.specs.Chain.{unlessRefused}
 use Rattle.keyentry.specs.Layout.{publicKeyAt, publicKeyLength, fekAt, fekLength, runBefore, runBetween, runAfter, overlap}

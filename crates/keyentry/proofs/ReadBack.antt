@@ -10,7 +10,7 @@ use Rattle.wire.proofs.Parts.{piece-part}
 use Rattle.keyentry.specs.declared.EntryRead.the-variants.{Accepted}
 use Rattle.keyentry.specs.declared.EntryPart.the-variants.{Item, Fek}
 use Rattle.keyentry.specs.Reading.{entryChecks, shown, entryOf, spanOf, entryPart}
-use Rattle.keyentry.specs.Writing.{entryLength, pieces, entryBytes, writeChecks}
+use Rattle.keyentry.specs.Writing.{pieces, entryBytes, writeChecks}
 use Rattle.keyentry.proofs.Writing.{is-flags, item-number, is-item-at, is-fek-length, is-fek-at, within-limit}
 
 pub record ReadsBack (flags : ℕ) (item fek : List ℕ) : Type 0 where

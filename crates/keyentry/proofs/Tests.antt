@@ -1,5 +1,5 @@
 -- Laws of the layout's tests: each fails exactly where the plain fact holds.
-use Rattle.lemmas.proofs.Basics.{ℕ, _+_, _-_, _≤_, _<_, min, max, arith, min-comm, max-comm, Bool, true, false, cond, not, _||_, _⊎_, inl, inr, _≡_, refl, ap, ltb, leb, lt-ltb, le-ltb, ltb-false, le-leb, lt-leb, leb-true}
+use Rattle.lemmas.proofs.Basics.{ℕ, _+_, _-_, _≤_, _<_, min, max, arith, min-comm, max-comm, true, false, cond, not, _||_, _⊎_, inl, inr, _≡_, refl, ap, ltb, leb, lt-ltb, le-ltb, ltb-false, le-leb, lt-leb, leb-true}
 use mathlib.Core.Bool.{or-comm}
 use Rattle.lemmas.proofs.Cases.{by-cases, or-false, false-or, not-false}
 use Rattle.refusal.specs.declared.Outcome.the-variants.{Accepted, Refused}

@@ -3,7 +3,7 @@ use Prim.Native.Nat.{ℕ, _+_, _-_, min, max}
 use mathlib.Core.Bool.{Bool, not, _||_}
 use mathlib.Core.List.{List, [], _∷_}
 use lib.Dec.{ltb, leb, eqb}
-use Rattle.refusal.specs.declared.Refusal.the-variants.{LengthsDisagree, Misplaced, EmptyItem, Overlap, UnusedRun}
+use Rattle.refusal.specs.declared.Refusal.the-variants.{Misplaced, EmptyItem, Overlap, UnusedRun}
 use Rattle.refusal.specs.Chain.{Check, _⇒_}
 use Rattle.wire.specs.Parts.{leAt}
 

@@ -1,11 +1,11 @@
 -- Laws of a writer's answer.
-use Rattle.lemmas.proofs.Basics.{ℕ, _≤_, _<_, min, arith, List, _≡_, refl, sym, ap, _∙_, ltb, length, take, drop, lt-ltb, le-ltb, ltb-true, ltb-false}
+use Rattle.lemmas.proofs.Basics.{ℕ, _≤_, _<_, arith, List, _≡_, refl, sym, ltb, length, take, drop, lt-ltb, le-ltb, ltb-false}
 use Rattle.refusal.specs.declared.Outcome.{Outcome}
 use Rattle.refusal.specs.declared.Outcome.the-variants as outcome
 use Rattle.refusal.specs.declared.Refusal.{Refusal}
 use Rattle.refusal.specs.declared.Refusal.the-variants.{NoRoom}
 use Rattle.refusal.specs.Chain.{unlessRefused, refuseIf}
-use Rattle.lemmas.proofs.Cases.{by-cases, leb-same}
+use Rattle.lemmas.proofs.Cases.{by-cases}
 use Rattle.wire.proofs.Writing.{take-onto, drop-onto}
 use Rattle.records.specs.declared.Written.the-variants.{Length, Refused}
 use Rattle.records.specs.Writing.{writtenOf, outputOf}
@@ -53,15 +53,3 @@ unfolding outputOf
 written-record checks bytes out n e =
     let told = written-accepted checks (length bytes) (length out) n e in
     rw (told .2) (take-onto bytes out (told .1), drop-onto bytes out (told .1))
-
--- A length that was capped at 65,536 serves as well, as what is over the limit is refused.
-pub written-capped : (checks : Outcome) (len room : ℕ) → (65535 < len → (r : Refusal) × (checks ≡ outcome.Refused r))
-    → writtenOf checks (min len 65536) room ≡ writtenOf checks len room
-written-capped checks len room over =
-    by-cases (λ _. writtenOf checks (min len 65536) room ≡ writtenOf checks len room) (ltb 65535 len)
-    (λ q. let told = over (ltb-true 65535 len q) in rw (told .1) (refused-written (told .0) _ room ∙ sym (refused-written (told .0) len room)))
-    (λ q. ap (λ n. writtenOf checks n room) (omega (arith, ltb-false 65535 len q)))
-
--- the cap is over the limit exactly where the length is
-pub over-capped : (len : ℕ) → ltb 65535 (min len 65536) ≡ ltb 65535 len
-over-capped len = leb-same 65536 (min len 65536) 65536 len (λ h. omega arith) (λ h. omega arith)

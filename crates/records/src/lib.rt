@@ -2,8 +2,6 @@
 // writer's answer.
 ghost use mathlib.Core.Path.{_≡_};
 ghost use Prim.Native.Nat.{_+_, min};
-ghost use Rattle.records.specs.Writing.{writtenOf};
-use refusal::Outcome;
 use refusal::Refusal;
 
 // Document 01, refusal 1: a record or a list is at most this long.
@@ -25,14 +23,4 @@ pub fn grown(len: usize, more: usize) -> usize
         }
     }
     65536
-}
-
-// Document 01, writers: what the reader would answer, then 13 where the output is shorter than the record.
-pub fn fitted(checks: Outcome, len: usize, room: usize) -> Written
-    ensures { λ r. ⌜ r ≡ writtenOf checks len room ⌝ }
-{
-    match checks.refuse_if(room < len, Refusal::NoRoom) {
-        Outcome::Accepted => Written::Length(len),
-        Outcome::Refused(refusal) => Written::Refused(refusal),
-    }
 }

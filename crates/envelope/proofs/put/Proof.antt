@@ -1,5 +1,5 @@
 -- `put`: the head, then the bodies two by two, each pair into the part that it is lent.
-use Rattle.lemmas.proofs.Basics.{ℕ, _+_, _≤_, arith, [], _++_, refl, sym, ap, _∙_, length, needs}
+use Rattle.lemmas.proofs.Basics.{ℕ, _+_, _≤_, arith, [], refl, sym, ap, _∙_, length, needs}
 use native.Mathlib.Nat.{zero-add}
 use Rattle.wire.specs.Parts.{onto, joined}
 use Rattle.wire.proofs.Writing.{lent, lent-pair, pair-room, onto-none, length-onto}
