@@ -42,7 +42,7 @@ pub fn without_sid(certificate: Span) -> EfsKeyAnswer
 }
 
 // Refused: the number, and zeros.
-pub fn refused(refusal: Refusal) -> EfsKeyAnswer
+pub fn efskey_refused(refusal: Refusal) -> EfsKeyAnswer
     ensures { λ r. ⌜ r ≡ efsKeyAnswer (Refused refusal) ⌝ }
 {
     EfsKeyAnswer {

@@ -11,7 +11,7 @@ use efskey::SidHint;
 use face::WrittenAnswer;
 use face::to_written;
 use face_efskeys::EfsKeyAnswer;
-use face_efskeys::refused;
+use face_efskeys::efskey_refused;
 use face_efskeys::with_sid;
 use face_efskeys::without_sid;
 
@@ -33,7 +33,7 @@ pub extern "C" fn gw_efskey_read(s: &[u8]) -> EfsKeyAnswer
             }
         }
         EfsKeyRead::Refused(refusal) => {
-            return refused(refusal);
+            return efskey_refused(refusal);
         }
     }
 }

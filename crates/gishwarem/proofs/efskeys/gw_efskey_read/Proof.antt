@@ -13,7 +13,7 @@ returns-2 c = let t = c .before .before in let k = t .before .before .before .be
 
 returns-3 : tie.Need-returns-3
 returns-3 c = let r = c .before .before in
-    rw (c .refused .ensures, ← (r .before .before .read .ensures), r .refusal .given .1)
+    rw (c .efskey-refused .ensures, ← (r .before .before .read .ensures), r .refusal .given .1)
 
 pub gw-efskey-read-spec : {M : Type 1} → statement M
 gw-efskey-read-spec = tie.close (tie.spec
