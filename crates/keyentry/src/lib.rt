@@ -1,7 +1,6 @@
 // Document 01, "Key List Entry and list": the Key List Entry (MS-EFSR 2.2.2.1.2), read and written.
 ghost use mathlib.Core.Path.{_≡_};
 ghost use Prim.Native.Nat.{ℕ, _+_, _≤_};
-ghost use mathlib.Core.Bool.{_||_};
 ghost use lib.ListN.{length};
 ghost use Rattle.refusal.specs.Chain.{firstOf};
 ghost use Rattle.wire.specs.Parts.{onto};
@@ -138,13 +137,7 @@ fn judge_items(p: u32, n: u32, f: u32, e: u32, len: usize) -> Outcome
 fn is_outside(p: u32, n: u32, len: usize) -> bool
     ensures { λ r. ⌜ r ≡ outside p n len ⌝ }
 {
-    either(p < 20, len < p as usize + n as usize)
-}
-
-fn either(a: bool, b: bool) -> bool
-    ensures { λ r. ⌜ r ≡ a || b ⌝ }
-{
-    a || b
+    (p < 20) | (len < p as usize + n as usize)
 }
 
 // 8 and 9: one item ends before the other begins, and the runs around them are short.

@@ -6,7 +6,7 @@ use Rattle.keyentry.proofs.is_outside.Tie as tie
 
 returns : tie.Need-returns
 unfolding outside
-returns c = c .either .ensures
+returns c = search needs
 
 pub is-outside-spec : {M : Type 1} → statement M
-is-outside-spec = tie.close (tie.spec (λ c. search needs) (λ c κs. search needs) returns)
+is-outside-spec = tie.close (tie.spec (λ c. search needs) returns)
