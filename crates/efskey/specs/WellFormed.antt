@@ -1,4 +1,4 @@
--- MS-GPEF 2.2.1.2.2 (source document 004), narrowed by document 01: what an EfsKey is, without an order of checks.
+-- MS-GPEF 2.2.1.2.2, narrowed by document 01: when an EfsKey is well formed, without an order of checks.
 use Prim.Native.Nat.{ℕ, _+_, _≤_}
 use mathlib.Core.Bool.{true}
 use mathlib.Core.List.{List, [], _∷_}

@@ -131,8 +131,8 @@ fn do_disagree(length1: u32, length2: u32, len: usize) -> bool
     (length1 as usize != len) | (length2 as usize + 4 != length1 as usize)
 }
 
-// The three checks that give 6: the certificate ends the record, and stands behind a SID offset of 28, or straight behind the
-// head where there is none.
+// The three checks that give 6: true unless the certificate ends the record, and the SID offset is 28 with the certificate not
+// before its area, or 0 with the certificate straight behind the head.
 fn is_misplaced(sid: u32, offset: u32, certificate: u32, total: u32) -> bool
     ensures { λ r. ⌜ r ≡ certificateMisplaced offset certificate total || sidMisplaced sid || gapWithoutSid sid offset ⌝ }
 {

@@ -1,5 +1,5 @@
 pub mod Reading
-pub mod Writing
 pub mod ExactlyWhen
-pub mod Forms
+pub mod Writing
 pub mod ReadBack
+pub mod Forms

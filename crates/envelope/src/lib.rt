@@ -172,7 +172,7 @@ fn judge(s: &[u8]) -> Outcome
     }
 }
 
-// 1, 2 and 4.
+// 1, 2 and 4: what a caller can answer without the reader.
 pub fn judge_head(s: &[u8]) -> Outcome
     ensures { λ r. ⌜ r ≡ firstOf (headChecks (now (s .entry))) ⌝ }
 {
@@ -243,16 +243,16 @@ fn judge_texts(s: &[u8], bodies: Bodies) -> Outcome
 }
 
 // The key rule, for keys of these lengths.
-fn judge_keys(head: Head, l1len: usize, l2len: usize) -> Outcome
-    ensures { λ r. ⌜ r ≡ firstOf (keyChecks (isPublic (head .flags)) (head .at) (head .«public_length») l1len l2len) ⌝ }
+fn judge_keys(head: Head, l1_length: usize, l2_length: usize) -> Outcome
+    ensures { λ r. ⌜ r ≡ firstOf (keyChecks (isPublic (head .flags)) (head .at) (head .«public_length») «l1_length» «l2_length») ⌝ }
 {
     let at = head.at;
     keys::judge(
         is_public(head.flags),
         at,
         head.public_length as usize,
-        l1len,
-        l2len,
+        l1_length,
+        l2_length,
     )
 }
 

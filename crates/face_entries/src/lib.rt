@@ -47,6 +47,7 @@ pub struct StepAnswer {
     pub fek: Part,
 }
 
+// Accepted: what the entry shows.
 pub fn entry_answer(entry: Entry) -> EntryAnswer
     ensures { λ r. ⌜ r ≡ entryAnswer (read.Accepted entry) ⌝ }
 {
@@ -60,6 +61,7 @@ pub fn entry_answer(entry: Entry) -> EntryAnswer
     }
 }
 
+// Refused: the number, and zeros.
 pub fn entry_refused(refusal: Refusal) -> EntryAnswer
     ensures { λ r. ⌜ r ≡ entryAnswer (read.Refused refusal) ⌝ }
 {

@@ -65,6 +65,7 @@ pub fn head_from(given: EnvelopeHead) -> Head
     }
 }
 
+// Accepted: what the envelope shows, and its form.
 pub fn envelope_answer(envelope: Envelope) -> EnvelopeAnswer
     ensures { λ r. ⌜ r ≡ envelopeAnswer (read.Accepted envelope) ⌝ }
 {
@@ -79,6 +80,7 @@ pub fn envelope_answer(envelope: Envelope) -> EnvelopeAnswer
     }
 }
 
+// Refused: the number, and zeros.
 pub fn envelope_refused(refusal: Refusal) -> EnvelopeAnswer
     ensures { λ r. ⌜ r ≡ envelopeAnswer (read.Refused refusal) ⌝ }
 {

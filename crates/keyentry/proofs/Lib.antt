@@ -1,5 +1,5 @@
-pub mod Tests
 pub mod Reading
 pub mod ExactlyWhen
 pub mod Writing
 pub mod ReadBack
+pub mod Tests

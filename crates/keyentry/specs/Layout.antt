@@ -1,4 +1,4 @@
--- Document 01, "Key List Entry and list": the head's numbers, and the checks after 1 and 2, in the paper's order.
+-- Document 01, "Key List Entry and list": the head's numbers, and the checks behind the item's own length, in the paper's order.
 use Prim.Native.Nat.{ℕ, _+_, _-_, min, max}
 use mathlib.Core.Bool.{Bool, not, _||_}
 use mathlib.Core.List.{List, [], _∷_}

@@ -38,29 +38,41 @@ fn l1_key_allowed(public: bool, at: Gkid, len: usize) -> bool
 }
 
 // L2 key: 0 if L2 = 31; else 0, or 64 for a seed, or the public key length for a public envelope.
-fn l2_key_allowed(public: bool, at: Gkid, publen: usize, len: usize) -> bool
-    ensures { λ r. ⌜ r ≡ l2KeyAllowed public at publen len ⌝ }
+fn l2_key_allowed(public: bool, at: Gkid, public_length: usize, len: usize) -> bool
+    ensures { λ r. ⌜ r ≡ l2KeyAllowed public at «public_length» len ⌝ }
 {
     if at.l2.0 == 31 {
         return len == 0;
     }
     if public {
-        return len == 0 || len == publen;
+        return len == 0 || len == public_length;
     }
     len == 0 || len == 64
 }
 
-fn keys_allowed(public: bool, at: Gkid, publen: usize, l1len: usize, l2len: usize) -> bool
-    ensures { λ r. ⌜ r ≡ keysAllowed public at publen l1len l2len ⌝ }
+fn keys_allowed(
+    public: bool,
+    at: Gkid,
+    public_length: usize,
+    l1_length: usize,
+    l2_length: usize,
+) -> bool
+    ensures { λ r. ⌜ r ≡ keysAllowed public at «public_length» «l1_length» «l2_length» ⌝ }
 {
-    l1_key_allowed(public, at, l1len) && l2_key_allowed(public, at, publen, l2len)
+    l1_key_allowed(public, at, l1_length) && l2_key_allowed(public, at, public_length, l2_length)
 }
 
 // Whether keys of these lengths are accepted, or their refusal.
-pub fn judge(public: bool, at: Gkid, publen: usize, l1len: usize, l2len: usize) -> Outcome
-    ensures { λ r. ⌜ r ≡ firstOf (keyChecks public at publen l1len l2len) ⌝ }
+pub fn judge(
+    public: bool,
+    at: Gkid,
+    public_length: usize,
+    l1_length: usize,
+    l2_length: usize,
+) -> Outcome
+    ensures { λ r. ⌜ r ≡ firstOf (keyChecks public at «public_length» «l1_length» «l2_length») ⌝ }
 {
-    let allowed = keys_allowed(public, at, publen, l1len, l2len);
+    let allowed = keys_allowed(public, at, public_length, l1_length, l2_length);
     Outcome::Accepted.refuse_if(!allowed, Refusal::KeyLength)
 }
 

@@ -1,5 +1,5 @@
--- Document 01, "The GetKey decision": the root table. Rows are packed most significant first: identifier 16 bytes, use-start time 8,
--- create time 8.
+-- Document 01, "The GetKey decision": the root table. Rows are packed: identifier 16 bytes, then two times of 8 bytes each, most
+-- significant byte first: use-start and create time.
 use Prim.Native.Nat.{ℕ, _+_, _*_, _/_, _%_}
 use mathlib.Core.Bool.{Bool, true, not, _||_}
 use mathlib.Core.List.{List}

@@ -8,7 +8,7 @@ use Rattle.envelope.proofs.judge_keys.Tie as tie
 returns : tie.Need-returns
 returns c =
     let a = c .before .before .before .before .args in
-    c .judge .ensures ∙ ap (λ public. firstOf (keyChecks public (a .head .at) (a .head .«public_length») (a .l1len) (a .l2len))) (c .before .before .is-public .ensures)
+    c .judge .ensures ∙ ap (λ public. firstOf (keyChecks public (a .head .at) (a .head .«public_length») (a .l1-length) (a .l2-length))) (c .before .before .is-public .ensures)
 
 pub judge-keys-spec : {M : Type 1} → statement M
 judge-keys-spec = tie.close (tie.spec (λ c κs. search needs) (λ c. search needs) (λ c κs. search needs) returns)
