@@ -1,5 +1,5 @@
 -- An EfsKey is accepted exactly when it is well formed, as MS-GPEF 2.2.1.2.2 states it, narrowed by document 01.
-use Rattle.lemmas.proofs.Basics.{ℕ, arith, Bool, true, false, cond, not, _&&_, List, [], _∷_, _⊎_, inl, inr, ⊎-elim, _≡_, refl, sym, ap, _∙_, eqb, length, replicate, le-ltb, ltb-false, eq-eqb, ne-eqb, eqb-true, eqb-false}
+use Rattle.lemmas.proofs.Basics.{ℕ, arith, Bool, true, false, cond, not, _&&_, true≢false, List, [], _∷_, _⊎_, inl, inr, ⊎-elim, _≡_, refl, sym, ap, _∙_, eqb, length, replicate, le-ltb, ltb-false, eq-eqb, ne-eqb, eqb-true, eqb-false}
 use Rattle.lemmas.proofs.Cases.{by-cases, not-false}
 use Rattle.refusal.specs.declared.Outcome.the-variants as outcome
 use Rattle.refusal.specs.Chain.{firstOf, unlessRefused}
@@ -7,6 +7,8 @@ use Rattle.wire.specs.Numbers.{leOf}
 use Rattle.wire.specs.Parts.{leAt}
 use Rattle.wire.proofs.Parts.{length-part}
 use Rattle.sid.specs.Rule.{isSid}
+use Rattle.sid.specs.WellFormed as sid
+use Rattle.sid.proofs.ExactlyWhen.{sid-well-formed, well-formed-sid}
 use Rattle.efskey.specs.declared.SidArea.the-variants.{Sid, Malformed}
 use Rattle.efskey.specs.Layout.{sidOffset, certificateLength, certificateOffset, sidMisplaced, gapWithoutSid, sidArea, areaOf, areaIn, sidMalformed}
 use Rattle.efskey.specs.Reading.{efsKeyChecks, efsKeyOf, efsKeyNumber}
@@ -32,9 +34,9 @@ either : (a b : Bool) → (not a && not b) ≡ false → (a ≡ true) ⊎ (b ≡
 either true b e = inl refl
 either false b e = inr (not-false b e)
 
-one : (area : List ℕ) → sidMalformed (areaOf 28 area) ≡ false → isSid area ≡ true
+one : (area : List ℕ) → sidMalformed (areaOf 28 area) ≡ false → sid.WellFormed area
 unfolding areaOf sidMalformed
-one area = by-cases (λ t. sidMalformed (cond t Sid Malformed) ≡ false → t ≡ true) (isSid area) (λ _ _. refl) (λ _ e. sym e)
+one area = by-cases (λ t. sidMalformed (cond t Sid Malformed) ≡ false → sid.WellFormed area) (isSid area) (λ q _. sid-well-formed area q) (λ _ e. absurd (true≢false e))
 
 sid-field : (s : List ℕ) → Passed s → SidField s
 sid-field s p =
@@ -45,7 +47,7 @@ sid-field s p =
 field-sid : (s : List ℕ) → SidField s → (sidMisplaced (sidOffset s) ≡ false) × (gapWithoutSid (sidOffset s) (certificateOffset s) ≡ false) × (sidMalformed (areaIn s) ≡ false)
 unfolding areaOf sidMalformed
 field-sid s (absent none straight) = rw (none, straight) (refl, refl, refl)
-field-sid s (present some sound) = rw (some, sound) (refl, refl, refl)
+field-sid s (present some sound) = rw (some, well-formed-sid _ sound) (refl, refl, refl)
 
 -- Accepted, so well formed.
 pub checks-well-formed : (s : List ℕ) → firstOf (efsKeyChecks s) ≡ outcome.Accepted → WellFormed s

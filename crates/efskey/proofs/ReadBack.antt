@@ -1,17 +1,18 @@
 -- What the writer accepted reads back as given, a refusal of the writer is the reader's, and writing what was read gives the
 -- same bytes but for Reserved2.
-use Rattle.lemmas.proofs.Basics.{ℕ, _+_, _-_, _≤_, arith, cond, List, [], _∷_, _++_, _≡_, refl, sym, ap, ap₂, _∙_, eqb, length, take, drop, replicate, length-drop, take-all, ne-eqb}
+use Rattle.lemmas.proofs.Basics.{ℕ, _+_, _-_, _≤_, arith, cond, List, [], _∷_, _++_, _≡_, refl, sym, ap, ap₂, _∙_, eqb, length, take, drop, replicate, length-drop, take-all, le-ltb, ne-eqb}
 use Rattle.refusal.specs.declared.Outcome.the-variants as outcome
 use Rattle.refusal.specs.declared.Refusal.{Refusal}
 use Rattle.refusal.specs.Chain.{firstOf, unlessRefused}
+use Rattle.refusal.proofs.Chains.{pass-accepted}
 use Rattle.wire.specs.Numbers.{leBytes}
 use Rattle.wire.specs.Parts.{partOf, leAt, joined}
 use Rattle.wire.proofs.Parts.{part-in, part-empty, length-part, joined-split, cut-joined}
 use Rattle.wire.proofs.Numbers.{Bytes, le-part-back}
 use Rattle.records.specs.declared.Written.the-variants as written
 use Rattle.records.specs.Writing.{outputOf}
-use Rattle.records.proofs.Laws.{written-accepted, refused-written, written-record}
-use Rattle.sid.proofs.Laws.{sid-length}
+use Rattle.records.proofs.Laws.{refused-written, written-record, record-written}
+use Rattle.sid.proofs.ExactlyWhen.{well-formed-sid}
 use Rattle.efskey.specs.declared.SidHint.{SidHint}
 use Rattle.efskey.specs.declared.SidHint.the-variants as hint
 use Rattle.efskey.specs.declared.EfsKeyRead.the-variants.{Accepted, Refused}
@@ -20,9 +21,9 @@ use Rattle.efskey.specs.Layout.{sidOffset, certificateLength, certificat
 use Rattle.efskey.specs.Reading.{efsKeyChecks, efsKeyOf, efsKeyNumber, hintOf, hintSpan, spanOf, efsKeyPart}
 use Rattle.efskey.specs.WellFormed.{WellFormed, SidField, absent, present}
 use Rattle.efskey.specs.Writing.{efsKeyLength, offsetFor, pieces, efsKeyBytes, writeChecks, efsKeyWritten}
-use Rattle.efskey.proofs.Reading.{refused-checks, accepted-checks}
+use Rattle.efskey.proofs.Reading.{refused-checks, accepted-checks, passed}
 use Rattle.efskey.proofs.ExactlyWhen.{checks-well-formed}
-use Rattle.efskey.proofs.Writing.{length-bytes, certificate-back, is-certificate-length, is-certificate-offset, is-sid-area, within-limit}
+use Rattle.efskey.proofs.Writing.{length-bytes, certificate-back, is-certificate-length, is-certificate-offset, is-sid-area, write-checks, within-limit}
 
 -- what is shown of a SID of so many bytes, where an empty one is none
 abbrev pub hintFor : ℕ → SidHint
@@ -45,7 +46,7 @@ area-tells s w = told (w .sid)
   where
     told : SidField s → (sidOffset s ≡ offsetFor (length (sidArea s))) × (hintOf (certificateOffset s) (areaIn s) ≡ hintFor (length (sidArea s)))
     told (absent none straight) = let empty : length (sidArea s) ≡ 0 = area-size s w ∙ ap (λ n. n - 28) straight in rw (none, empty) (refl, refl)
-    told (present some sound) = rw (some, sound, ne-eqb (length (sidArea s)) 0 (λ z. omega (arith, sid-length (sidArea s) sound)), area-size s w) (refl, refl)
+    told (present some sound) = rw (some, well-formed-sid _ sound, ne-eqb (length (sidArea s)) 0 (λ z. omega (arith, sound .size)), area-size s w) (refl, refl)
 
 -- The parts of an accepted record: the SID area, and the bytes behind it.
 sid-is : (s : List ℕ) → firstOf (efsKeyChecks s) ≡ outcome.Accepted → efsKeyPart s Sid ≡ sidArea s
@@ -54,7 +55,7 @@ sid-is s e = told (checks-well-formed s e .sid)
   where
     told : SidField s → efsKeyPart s Sid ≡ sidArea s
     told (absent none straight) = rw (e, none, straight) (part-empty s 0 ∙ sym (part-empty s 32))
-    told (present some sound) = rw (e, some, sound)
+    told (present some sound) = rw (e, some, well-formed-sid _ sound)
 
 certificate-is : (s : List ℕ) → firstOf (efsKeyChecks s) ≡ outcome.Accepted → efsKeyPart s Certificate ≡ partOf s (4 + certificateOffset s) (certificateLength s)
 unfolding efsKeyOf unlessRefused spanOf
@@ -79,14 +80,8 @@ reads-back sid certificate accepted =
 pub written-reads-back : (sid certificate out : List ℕ) (n : ℕ) → efsKeyWritten sid certificate (length out) ≡ written.Length n
     → ReadsBack (take n (outputOf (written.Length n) (efsKeyBytes sid certificate) out)) sid certificate
 written-reads-back sid certificate out n e =
-    let checks = firstOf (writeChecks sid certificate) in
-    rw (written-record checks (efsKeyBytes sid certificate) out n (rw (length-bytes sid certificate) e) .0) (reads-back sid certificate (written-accepted checks _ _ n e .0))
-
--- What is written is well formed, and the output has room for it.
-pub written-well-formed : (sid certificate : List ℕ) (room n : ℕ) → efsKeyWritten sid certificate room ≡ written.Length n
-    → WellFormed (efsKeyBytes sid certificate) × (efsKeyLength sid certificate ≤ room)
-unfolding writeChecks
-written-well-formed sid certificate room n e = let told = written-accepted _ _ room n e in (checks-well-formed _ (told .0), told .1)
+    let told = written-record (efsKeyBytes sid certificate) out n (length-bytes sid certificate) e in
+    rw (told .1) (reads-back sid certificate (told .0))
 
 -- What the reader would refuse of the bytes, the writer refuses, whatever the room.
 pub refused-as-read : (sid certificate : List ℕ) (room : ℕ) (r : Refusal) → efsKeyOf (efsKeyBytes sid certificate) ≡ Refused r → efsKeyWritten sid certificate room ≡ written.Refused r
@@ -113,3 +108,27 @@ rewritten s p z =
     in
     let back : joined (sid ∷ certificate ∷ []) ≡ drop 32 s = cut-joined s 32 (n ∷ m ∷ []) (omega arith) ∙ part-in s 32 (n + (m + 0)) (omega arith) ∙ take-all (n + (m + 0)) (drop 32 s) (rw (length-drop 32 s) (omega arith)) in
     rw (sid-is s e, certificate-is s e, from-0) (joined-split (pieces sid certificate) 6 ∙ ap₂ (λ x y. x ++ (replicate 8 0 ++ y)) front back)
+
+-- What was read from an accepted record, the writer accepts.
+accepts-read : (s : List ℕ) → efsKeyNumber (efsKeyOf s) ≡ 0
+    → (firstOf (writeChecks (efsKeyPart s Sid) (efsKeyPart s Certificate)) ≡ outcome.Accepted) × (efsKeyLength (efsKeyPart s Sid) (efsKeyPart s Certificate) ≡ length s)
+accepts-read s z =
+    let e = accepted-checks s z in
+    let w = checks-well-formed s e in
+    let sid = sidArea s in
+    let certificate = partOf s (4 + certificateOffset s) (certificateLength s) in
+    let b = length-part s (4 + certificateOffset s) (certificateLength s) (omega arith) in
+    let size : efsKeyLength sid certificate ≡ length s = omega (arith, area-size s w) in
+    let fits : efsKeyLength sid certificate ≤ 65535 = omega arith in
+    let some : length certificate ≡ 0 → ⊥ = λ none. omega arith in
+    rw (sid-is s e, certificate-is s e)
+    (write-checks sid certificate ∙ pass-accepted _ (le-ltb 65535 _ fits, (ne-eqb _ 0 some, (rw (← (area-tells s w .0)) (passed s e .sid), tt))), size)
+
+-- So given room it is written: the same bytes but for Reserved2, then what stood behind them.
+pub rewrites : (s out : List ℕ) → Bytes s → efsKeyNumber (efsKeyOf s) ≡ 0 → length s ≤ length out
+    → (efsKeyWritten (efsKeyPart s Sid) (efsKeyPart s Certificate) (length out) ≡ written.Length (length s))
+    × (outputOf (efsKeyWritten (efsKeyPart s Sid) (efsKeyPart s Certificate) (length out)) (efsKeyBytes (efsKeyPart s Sid) (efsKeyPart s Certificate)) out
+    ≡ (take 24 s ++ (replicate 8 0 ++ drop 32 s)) ++ drop (length s) out)
+rewrites s out b z room =
+    let k = accepts-read s z in
+    rw (k .1, ← (rewritten s b z)) (record-written _ out (k .0) (length-bytes _ _ ∙ k .1) room)

@@ -1,17 +1,16 @@
 -- MS-GPEF 2.2.1.2.2, narrowed by document 01: when an EfsKey is well formed, without an order of checks.
 use Prim.Native.Nat.{ℕ, _+_, _≤_}
-use mathlib.Core.Bool.{true}
 use mathlib.Core.List.{List, [], _∷_}
 use mathlib.Core.Path.{_≡_}
 use lib.ListN.{length}
 use Rattle.wire.specs.Parts.{partOf}
-use Rattle.sid.specs.Rule.{isSid}
+use Rattle.sid.specs.WellFormed as sid
 use Rattle.efskey.specs.Layout.{length1, length2, sidOffset, certificateLength, certificateOffset, sidArea}
 
 -- SID, optional: absent, with the certificate straight behind the head; or one SID from byte 32 to the certificate
 pub data SidField (s : List ℕ) : Type 0 where
   absent : sidOffset s ≡ 0 → certificateOffset s ≡ 28 → SidField s
-  present : sidOffset s ≡ 28 → isSid (sidArea s) ≡ true → SidField s
+  present : sidOffset s ≡ 28 → sid.WellFormed (sidArea s) → SidField s
 
 pub record WellFormed (s : List ℕ) : Type 0 where
   -- at most 65,535 bytes, and the 32 of the head are there

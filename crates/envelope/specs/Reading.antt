@@ -10,7 +10,7 @@ use Rattle.refusal.specs.Number.{numberOf}
 use Rattle.wire.specs.declared.Span.{Span}
 use Rattle.wire.specs.Numbers.{leOf}
 use Rattle.wire.specs.Parts.{leAt, partOf}
-use Rattle.gkid.specs.Identifier.{indexAbove31}
+use Rattle.gkid.specs.Identifier.{gkid, indexAbove31}
 use Rattle.text.specs.Text.{textChecks}
 use Rattle.keys.specs.declared.Form.{Form}
 use Rattle.keys.specs.declared.Form.the-variants.{Keyless, L1Only, L2Only, Both, Public}
@@ -58,15 +58,36 @@ shown s = record { head = headOf s; bodies = bodiesOf (lengthsOf s) }
 unfoldable pub envelopeOf : List ℕ → EnvelopeRead
 envelopeOf s = unlessRefused Refused (firstOf (envelopeChecks s)) (Accepted (shown s))
 
--- document 01's number: 0, or the refusal's; on a refusal every value is zero (`Accepted` has them, `Refused` has none)
+-- document 01's number and values: 0 and what is shown, or the refusal's number and zeros
 unfoldable pub envelopeNumber : EnvelopeRead → ℕ
 envelopeNumber (Accepted e) = 0
 envelopeNumber (Refused r) = numberOf r
 
+abbrev noBody : Span
+noBody = record { at = 0; len = 0 }
+
+unfoldable pub envelopeValues : EnvelopeRead → Envelope
+envelopeValues (Accepted e) = e
+envelopeValues (Refused r) =
+    record {
+      head = record { version = 0; flags = 0; at = gkid 0 0 0; root = record { low = 0; high = 0 }; «private_length» = 0; «public_length» = 0 };
+      bodies =
+          record {
+            kdf = noBody;
+            «kdf_parameters» = noBody;
+            agreement = noBody;
+            «agreement_parameters» = noBody;
+            domain = noBody;
+            forest = noBody;
+            «l1_key» = noBody;
+            «l2_key» = noBody;
+          };
+    }
+
 -- where a body stands; 0 and 0 on a refusal
 unfoldable pub spanOf : EnvelopeRead → EnvelopePart → Span
 spanOf (Accepted e) which = bodySpan (e .bodies) which
-spanOf (Refused r) which = record { at = 0; len = 0 }
+spanOf (Refused r) which = noBody
 
 abbrev pub envelopeSpan : List ℕ → EnvelopePart → Span
 envelopeSpan s which = spanOf (envelopeOf s) which

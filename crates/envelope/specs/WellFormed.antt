@@ -3,8 +3,7 @@ use Prim.Native.Nat.{ℕ, _≤_}
 use mathlib.Core.List.{List}
 use mathlib.Core.Path.{_≡_}
 use lib.ListN.{length}
-use Rattle.wire.specs.Numbers.{leOf}
-use Rattle.wire.specs.Parts.{leAt}
+use Rattle.wire.specs.Parts.{partOf}
 use Rattle.gkid.specs.Identifier.{InGroup}
 use Rattle.text.specs.WellFormed as text
 use Rattle.keys.specs.WellFormed as keys
@@ -17,7 +16,7 @@ pub record WellFormed (s : List ℕ) : Type 0 where
   pub limit : length s ≤ 65535
   pub head : 80 ≤ length s
   -- the four fixed bytes
-  pub marked : leAt 4 s 4 ≡ leOf mark
+  pub marked : partOf s 4 4 ≡ mark
   -- L1 and L2 index MUST be a number between 0 and 31, inclusive
   pub indices : InGroup (headOf s .at)
   -- each length field MUST be the length of its body, and the bodies make up the rest of the record

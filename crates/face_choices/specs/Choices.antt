@@ -1,14 +1,13 @@
 -- Document 01, "Reach, and the two envelopes", as C has its answers.
 use Prim.Native.Nat.{ℕ}
-use Rattle.wire.specs.declared.Span.{Span}
 use Rattle.reach.specs.declared.Reach.{Reach}
 use Rattle.reach.specs.Reaches.{reachNumber, reachRows, reachTotal}
 use Rattle.serving.specs.declared.SeedKey.{SeedKey}
 use Rattle.serving.specs.declared.SeedKey.the-variants.{L1, L2}
 use Rattle.serving.specs.declared.Choice.{Choice}
 use Rattle.serving.specs.declared.Choice.the-variants.{Cached, Fetched, Neither}
-use Rattle.serving.specs.Choice.{choiceNumber}
-use Rattle.face.specs.Shapes.{partShown, noPart}
+use Rattle.serving.specs.Choice.{choiceNumber, choiceSpan}
+use Rattle.face.specs.Shapes.{partShown}
 use Rattle.face_choices.specs.declared.ReachAnswer.{ReachAnswer}
 use Rattle.face_choices.specs.declared.ChoiceAnswer.{ChoiceAnswer}
 
@@ -20,11 +19,17 @@ unfoldable pub keyCode : SeedKey → ℕ
 keyCode L1 = 1
 keyCode L2 = 2
 
--- the envelope that serves, the key by which it does, and where that stands
-abbrev pub chosenAt : ℕ → SeedKey → Span → ChoiceAnswer
-chosenAt which key span = record { refusal = 0; which = which; key = keyCode key; reserved = 0; place = partShown span }
+-- 1 for the cached envelope, 2 for the fetched one, 0 where neither serves
+unfoldable pub whichCode : Choice → ℕ
+whichCode (Cached key span) = 1
+whichCode (Fetched key span) = 2
+whichCode Neither = 0
+
+-- the key by which it serves, 0 where neither does
+unfoldable pub chosenKeyCode : Choice → ℕ
+chosenKeyCode (Cached key span) = keyCode key
+chosenKeyCode (Fetched key span) = keyCode key
+chosenKeyCode Neither = 0
 
 unfoldable pub choiceAnswer : Choice → ChoiceAnswer
-choiceAnswer (Cached key span) = chosenAt 1 key span
-choiceAnswer (Fetched key span) = chosenAt 2 key span
-choiceAnswer Neither = record { refusal = choiceNumber Neither; which = 0; key = 0; reserved = 0; place = noPart }
+choiceAnswer c = record { refusal = choiceNumber c; which = whichCode c; key = chosenKeyCode c; reserved = 0; place = partShown (choiceSpan c) }

@@ -1,6 +1,7 @@
 // Document 01, "Reach, and the two envelopes", as C has its answers.
 ghost use mathlib.Core.Path.{_≡_};
-ghost use Rattle.face_choices.specs.Choices.{keyCode, reachAnswer, choiceAnswer, chosenAt};
+ghost use Rattle.face.specs.Shapes.{partShown};
+ghost use Rattle.face_choices.specs.Choices.{keyCode, reachAnswer, choiceAnswer};
 use face::Part;
 use face::to_part;
 use reach::Reach;
@@ -54,8 +55,9 @@ pub fn choice_answer(choice: Choice) -> ChoiceAnswer
     }
 }
 
+// The envelope that serves, the key by which it does, and where that stands.
 fn chosen_at(which: u32, key: SeedKey, span: Span) -> ChoiceAnswer
-    ensures { λ r. ⌜ r ≡ chosenAt which key span ⌝ }
+    ensures { λ r. ⌜ r ≡ record { refusal = 0; which = which; key = keyCode key; reserved = 0; place = partShown span } ⌝ }
 {
     ChoiceAnswer {
         refusal: 0,

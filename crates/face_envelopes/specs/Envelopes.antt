@@ -1,15 +1,11 @@
 -- Document 01, "Group Key Envelope", as C has its answer, and the head as C hands it in.
-use Prim.Native.Nat.{ℕ}
-use lib.ListN.{replicate}
-use Rattle.refusal.specs.Number.{numberOf}
 use Rattle.envelope.specs.declared.Head.{Head}
 use Rattle.envelope.specs.declared.Bodies.{Bodies}
 use Rattle.envelope.specs.declared.EnvelopeRead.{EnvelopeRead}
-use Rattle.envelope.specs.declared.EnvelopeRead.the-variants.{Accepted, Refused}
 use Rattle.envelope.specs.Layout.{isPublic}
-use Rattle.envelope.specs.Reading.{formOf}
+use Rattle.envelope.specs.Reading.{envelopeNumber, envelopeValues, formOf}
 use Rattle.face.specs.Codes.{formCode, boolCode}
-use Rattle.face.specs.Shapes.{partShown, noPart, identifierShown, noIdentifier, gkidFrom, rootIdFrom, rootShown}
+use Rattle.face.specs.Shapes.{partShown, identifierShown, gkidFrom, rootIdFrom, rootShown}
 use Rattle.face_envelopes.specs.declared.EnvelopeHead.{EnvelopeHead}
 use Rattle.face_envelopes.specs.declared.EnvelopeBodies.{EnvelopeBodies}
 use Rattle.face_envelopes.specs.declared.EnvelopeAnswer.{EnvelopeAnswer}
@@ -49,42 +45,12 @@ bodiesShown b =
       «l2_key» = partShown (b .«l2_key»);
     }
 
--- a refused envelope: its number, and zeros
-abbrev pub noEnvelope : ℕ → EnvelopeAnswer
-noEnvelope refusal =
-    record {
-      refusal = refusal;
-      form = 0;
-      «is_public» = 0;
-      head =
-          record {
-            version = 0;
-            flags = 0;
-            at = noIdentifier;
-            root = record { bytes = replicate 16 0 };
-            «private_length» = 0;
-            «public_length» = 0;
-          };
-      bodies =
-          record {
-            kdf = noPart;
-            «kdf_parameters» = noPart;
-            agreement = noPart;
-            «agreement_parameters» = noPart;
-            domain = noPart;
-            forest = noPart;
-            «l1_key» = noPart;
-            «l2_key» = noPart;
-          };
-    }
-
 unfoldable pub envelopeAnswer : EnvelopeRead → EnvelopeAnswer
-envelopeAnswer (Accepted e) =
+envelopeAnswer r =
     record {
-      refusal = 0;
-      form = formCode (formOf e);
-      «is_public» = boolCode (isPublic (e .head .flags));
-      head = headShown (e .head);
-      bodies = bodiesShown (e .bodies);
+      refusal = envelopeNumber r;
+      form = formCode (formOf (envelopeValues r));
+      «is_public» = boolCode (isPublic (envelopeValues r .head .flags));
+      head = headShown (envelopeValues r .head);
+      bodies = bodiesShown (envelopeValues r .bodies);
     }
-envelopeAnswer (Refused r) = noEnvelope (numberOf r)

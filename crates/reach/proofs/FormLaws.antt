@@ -15,14 +15,14 @@ use Rattle.keys.proofs.FormLaws.{keyless-checks}
 use Rattle.reach.specs.Reached.{reaches}
 use Rattle.reach.specs.Bits.{rowWhere, bit, table, bitAt, count}
 use Rattle.reach.specs.Maps.{rowOf, mapOf, emptyMap, totalOf}
-use Rattle.reach.specs.Reaches.{keysReach, refusedReach, formReach, reachTotal}
+use Rattle.reach.specs.Reaches.{mapReach, refusedReach, keysReach, formReach, reachTotal}
 
 -- A refusal reaches nothing, and its total is 0.
 pub refused-nothing : (form : Form) (at : Gkid) (r : Refusal) → formReach form at .outcome ≡ Refused r → formReach form at ≡ refusedReach r
-unfolding formReach unlessRefused keysReach refusedReach
+unfolding formReach keysReach unlessRefused refusedReach
 refused-nothing form at r = of (firstOf (seedChecks (keysOf form) at))
   where
-    of : (o : Outcome) → unlessRefused refusedReach o (keysReach (keysOf form) at) .outcome ≡ Refused r → unlessRefused refusedReach o (keysReach (keysOf form) at) ≡ refusedReach r
+    of : (o : Outcome) → unlessRefused refusedReach o (mapReach (keysOf form) at) .outcome ≡ Refused r → unlessRefused refusedReach o (mapReach (keysOf form) at) ≡ refusedReach r
     of Accepted e = absurd (never-both (sym e))
     of (Refused q) e = cc
 
@@ -35,7 +35,7 @@ pub keyless-reach : (at : Gkid) → formReach Keyless at ≡ record { outcome = 
 unfolding formReach unlessRefused keysReach refusedReach keysOf mapOf table rowOf rowWhere bit reaches emptyMap
 keyless-reach at = rw (keyless-checks at) (either (indexAbove31 at))
   where
-    either : (b : Bool) → unlessRefused refusedReach (cond b (Refused IndexAbove31) Accepted) (keysReach (keysOf Keyless) at) ≡ record { outcome = cond b (Refused IndexAbove31) Accepted; rows = emptyMap }
+    either : (b : Bool) → unlessRefused refusedReach (cond b (Refused IndexAbove31) Accepted) (mapReach (keysOf Keyless) at) ≡ record { outcome = cond b (Refused IndexAbove31) Accepted; rows = emptyMap }
     either true = refl
     either false = refl
 

@@ -11,14 +11,14 @@ use Rattle.keys.specs.Forms.{keysOf, seedForm}
 use Rattle.keys.proofs.FormLaws.{form-cases, seed-form-accepted}
 use Rattle.reach.specs.Reached.{ofGroup, l1Reaches, l2Reaches, reaches}
 use Rattle.reach.specs.Bits.{bit, count}
-use Rattle.reach.specs.Reaches.{keysReach, formReach, reachTotal, reachedIn}
+use Rattle.reach.specs.Reaches.{mapReach, keysReach, formReach, reachTotal, reachedIn}
 use Rattle.reach.proofs.BitLaws.{count-is}
 use Rattle.reach.proofs.ReachLaws.{group-is, is-group, outside}
 use Rattle.reach.proofs.MapLaws.{in-map, member, map-total}
 
 -- The form is not refused.
-pub seed-accepted : (at : Gkid) → InGroup at → formReach (seedForm at) at ≡ keysReach (keysOf (seedForm at)) at
-unfolding formReach unlessRefused
+pub seed-accepted : (at : Gkid) → InGroup at → formReach (seedForm at) at ≡ mapReach (keysOf (seedForm at)) at
+unfolding formReach keysReach unlessRefused
 seed-accepted at g = rw (seed-form-accepted at g)
 
 leb-not-ltb : (a b : ℕ) → leb a b ≡ not (ltb b a)
@@ -53,7 +53,7 @@ seed-reaches at i g =
 
 -- So do the bits of the form's map.
 pub seed-bits : (at i : Gkid) → InGroup at → reachedIn at (formReach (seedForm at) at) i ≡ ofGroup at i && not (later i at)
-unfolding reachedIn keysReach
+unfolding reachedIn
 seed-bits at i g = rw (seed-accepted at g) (in-map (keysOf (seedForm at)) at i ∙ seed-reaches at i g)
 
 -- of the numbers below n, those up to m
@@ -67,7 +67,7 @@ count-to (suc n) m =
 
 -- Its total is 32·L1 + L2 + 1.
 pub seed-total : (at : Gkid) → InGroup at → reachTotal (formReach (seedForm at) at) ≡ 32 * at .l1 .0 + at .l2 .0 + 1
-unfolding reachTotal keysReach
+unfolding reachTotal
 seed-total at g =
     let below : 32 * at .l1 .0 + at .l2 .0 < 1024 = omega arith in
     rw (seed-accepted at g)

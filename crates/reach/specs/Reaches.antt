@@ -13,18 +13,21 @@ use Rattle.keys.specs.Forms.{keysOf, seedChecks}
 use Rattle.reach.specs.declared.Reach.{Reach}
 use Rattle.reach.specs.Maps.{mapOf, emptyMap, inMap, totalOf}
 
--- what the keys present at an identifier reach
-unfoldable pub keysReach : SeedKeys → Gkid → Reach
-keysReach keys at = record { outcome = Accepted; rows = mapOf keys at }
+-- what keys reach from an identifier, whatever its indices: the map
+abbrev pub mapReach : SeedKeys → Gkid → Reach
+mapReach keys at = record { outcome = Accepted; rows = mapOf keys at }
 
 -- a refusal has zeros in place of the rows
 unfoldable pub refusedReach : Refusal → Reach
 refusedReach r = record { outcome = Refused r; rows = emptyMap }
 
--- a form's reach is that of a seed envelope at the identifier with just those keys, and is refused where such an envelope would be;
--- PUBLIC and keyless are the envelope with no seed key
+-- the reach of a seed envelope at an identifier with just these keys; refused 5, then 11, where such an envelope would be
+unfoldable pub keysReach : SeedKeys → Gkid → Reach
+keysReach keys at = unlessRefused refusedReach (firstOf (seedChecks keys at)) (mapReach keys at)
+
+-- a form's reach is that of a seed envelope with just those keys; PUBLIC and keyless are the envelope with no seed key
 unfoldable pub formReach : Form → Gkid → Reach
-formReach form at = unlessRefused refusedReach (firstOf (seedChecks (keysOf form) at)) (keysReach (keysOf form) at)
+formReach form at = keysReach (keysOf form) at
 
 -- document 01's number: 0 where accepted
 unfoldable pub reachNumber : Reach → ℕ

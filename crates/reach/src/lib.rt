@@ -80,7 +80,7 @@ fn row(keys: SeedKeys, at: Gkid, l1: u32) -> u32
     0
 }
 
-// The map of what the keys present reach, row by row.
+// The map of what keys reach from an identifier, whatever its indices, row by row: bits stand for the identifiers of its L0 group alone.
 fn map(keys: SeedKeys, at: Gkid) -> [u32; 32]
     ensures { λ r. ⌜ r ≡ mapOf keys at ⌝ }
 {
@@ -107,13 +107,16 @@ fn total(rows: [u32; 32]) -> u32
 }
 
 impl Reach {
-    // What the keys present at an identifier reach.
+    // What a seed envelope at an identifier with just these keys reaches: 5, then 11, where such an envelope would be refused.
     pub fn of(keys: SeedKeys, at: Gkid) -> Reach
         ensures { λ r. ⌜ r ≡ keysReach keys at ⌝ }
     {
-        Reach {
-            outcome: Outcome::Accepted,
-            rows: map(keys, at),
+        match keys.judge(at) {
+            Outcome::Accepted => Reach {
+                outcome: Outcome::Accepted,
+                rows: map(keys, at),
+            },
+            Outcome::Refused(refusal) => Reach::refused(refusal),
         }
     }
 
@@ -155,9 +158,5 @@ impl Reach {
 pub fn form_reach(form: Form, at: Gkid) -> Reach
     ensures { λ r. ⌜ r ≡ formReach form at ⌝ }
 {
-    let keys = form.keys();
-    match keys.judge(at) {
-        Outcome::Accepted => Reach::of(keys, at),
-        Outcome::Refused(refusal) => Reach::refused(refusal),
-    }
+    Reach::of(form.keys(), at)
 }

@@ -1,12 +1,12 @@
 -- Laws of a writer's answer.
-use Rattle.lemmas.proofs.Basics.{ℕ, _≤_, _<_, arith, List, _≡_, refl, sym, ltb, length, take, drop, lt-ltb, le-ltb, ltb-false}
+use Rattle.lemmas.proofs.Basics.{ℕ, _≤_, _<_, arith, List, _++_, _≡_, refl, sym, ap, _∙_, ltb, length, take, drop, lt-ltb, le-ltb, ltb-false}
 use Rattle.refusal.specs.declared.Outcome.{Outcome}
 use Rattle.refusal.specs.declared.Outcome.the-variants as outcome
 use Rattle.refusal.specs.declared.Refusal.{Refusal}
 use Rattle.refusal.specs.declared.Refusal.the-variants.{NoRoom}
 use Rattle.refusal.specs.Chain.{unlessRefused, refuseIf}
 use Rattle.lemmas.proofs.Cases.{by-cases}
-use Rattle.wire.proofs.Writing.{take-onto, drop-onto}
+use Rattle.wire.proofs.Writing.{onto-in, take-onto, drop-onto}
 use Rattle.records.specs.declared.Written.the-variants.{Length, Refused}
 use Rattle.records.specs.Writing.{writtenOf, outputOf}
 
@@ -46,10 +46,19 @@ lacks-room len room judged told h = rw (← judged, told) (sym (no-room len room
 pub writes : {o checks : Outcome} (len room : ℕ) → o ≡ checks → o ≡ outcome.Accepted → len ≤ room → Length len ≡ writtenOf checks len room
 writes len room judged told h = rw (← judged, told) (sym (accepted-written len room h))
 
--- What a writer accepted stands at the start of the output, and the rest is as it was.
-pub written-record : (checks : Outcome) (bytes out : List ℕ) (n : ℕ) → writtenOf checks (length bytes) (length out) ≡ Length n
-    → (take n (outputOf (Length n) bytes out) ≡ bytes) × (drop n (outputOf (Length n) bytes out) ≡ drop n out)
+-- What a writer accepted: its checks are passed, it stands at the start of the output, and the rest is as it was.
+pub written-record : {checks : Outcome} {len : ℕ} (bytes out : List ℕ) (n : ℕ) → length bytes ≡ len → writtenOf checks len (length out) ≡ Length n
+    → (checks ≡ outcome.Accepted) × (take n (outputOf (Length n) bytes out) ≡ bytes) × (drop n (outputOf (Length n) bytes out) ≡ drop n out)
 unfolding outputOf
-written-record checks bytes out n e =
-    let told = written-accepted checks (length bytes) (length out) n e in
-    rw (told .2) (take-onto bytes out (told .1), drop-onto bytes out (told .1))
+written-record {checks} {len} bytes out n is e =
+    let told = written-accepted checks len (length out) n e in
+    let room : length bytes ≤ length out = omega (arith, told .1) in
+    rw (told .2, ← is) (told .0, take-onto bytes out room, drop-onto bytes out room)
+
+-- A record that its checks accept is written where the output has room for it.
+pub record-written : {checks : Outcome} {len : ℕ} (bytes out : List ℕ) → checks ≡ outcome.Accepted → length bytes ≡ len → len ≤ length out
+    → (writtenOf checks len (length out) ≡ Length len) × (outputOf (writtenOf checks len (length out)) bytes out ≡ bytes ++ drop len out)
+unfolding outputOf
+record-written {checks} {len} bytes out accepted is room =
+    let room′ : length bytes ≤ length out = omega arith in
+    rw (accepted, accepted-written len (length out) room) (refl, onto-in bytes out room′ ∙ ap (λ n. bytes ++ drop n out) is)

@@ -4,6 +4,7 @@ use mathlib.Core.Bool.{cond, _&&_}
 use mathlib.Core.List.{List, []}
 use Rattle.refusal.specs.declared.Refusal.the-variants.{NeitherServes}
 use Rattle.refusal.specs.Number.{numberOf}
+use Rattle.wire.specs.declared.Span.{Span}
 use Rattle.wire.specs.Parts.{partOf, startOf}
 use Rattle.gkid.specs.declared.Gkid.{Gkid}
 use Rattle.rootid.specs.declared.RootId.{RootId}
@@ -27,7 +28,8 @@ keyFor e i =
     (cond (keysOf (formOf e) .l1 && l1Reaches (e .head .at) i) (By L1 (e .bodies .«l1_key»))
     No)
 
--- an envelope serves if it is accepted, has that root and L0, and reaches the identifier (what is reached has the same L0)
+-- an envelope serves if it is accepted, has that root and L0, and reaches the identifier (what is reached has the same L0); said of its
+-- bytes this is `Serves`
 unfoldable pub servedBy : EnvelopeRead → RootId → Gkid → Served
 servedBy (read.Accepted e) root i = cond (sameRoot (e .head .root) root) (keyFor e i) No
 servedBy (read.Refused r) root i = No
@@ -58,8 +60,13 @@ chosenStart (Cached key span) cached fetched = startOf cached (span .at) (span .
 chosenStart (Fetched key span) cached fetched = startOf fetched (span .at) (span .len)
 chosenStart Neither cached fetched = 0
 
--- document 01's number: 0, or 23
+-- document 01's number and values: 0 and where the key stands, or 23 and zeros
 unfoldable pub choiceNumber : Choice → ℕ
 choiceNumber (Cached key span) = 0
 choiceNumber (Fetched key span) = 0
 choiceNumber Neither = numberOf NeitherServes
+
+unfoldable pub choiceSpan : Choice → Span
+choiceSpan (Cached key span) = span
+choiceSpan (Fetched key span) = span
+choiceSpan Neither = record { at = 0; len = 0 }
