@@ -1,4 +1,4 @@
-# run: the program on an envelope that is kept here. test: the whole gate. lib: the static library and its header, into build/.
+# run: the program on two envelopes that are kept here, another implementation's and the papers' 88 bytes. test: the whole gate. lib: the static library and its header, into build/.
 # bench: the library against the reference, by time. count: the same by instructions. soak: both on random inputs until stopped.
 # vectors: the papers' bench cases.
 .PHONY: run test lib bench count soak vectors host doc fmt
@@ -12,6 +12,7 @@ SOURCES := crates.txt include/gishwarem.h $(shell find crates -name '*.rt' -o -n
 
 run:
 	@scripts/prove check envinfo
+	@target/bin/envinfo < crates/vectors_envelopes_written/stdin
 	@target/bin/envinfo < crates/envinfo/stdin
 	@echo "On a file of your own: target/bin/envinfo < FILE"
 

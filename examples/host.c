@@ -112,7 +112,7 @@ static gw_envelope_answer show_envelope(const bytes *envelope)
 static gw_decision_answer ask(const bytes *table, int32_t l0, int32_t l1, int32_t l2)
 {
     gw_request request = {GW_ROOT_NONE, l0, l1, l2, {{0}}};
-    gw_decision_answer answer = gw_decide(GW_VERDICT_IS_YES, GW_RIGHTS_SEED, request, CLOCK, table->data, table->len);
+    gw_decision_answer answer = gw_decide(GW_ACCESS_ALLOWED, GW_RIGHTS_SEED, request, CLOCK, table->data, table->len);
 
     printf("asked for (%" PRId32 ",%" PRId32 ",%" PRId32 "): ", l0, l1, l2);
     if (answer.refusal != GW_ACCEPTED) {
@@ -151,6 +151,10 @@ int main(int argc, char **argv)
     gw_envelope_answer shown;
     gw_decision_answer latest;
 
+    if (gw_version() != GW_VERSION) {
+        fprintf(stderr, "host: the library is of another version than its header\n");
+        return 1;
+    }
     if (argc != 5) {
         fprintf(stderr, "usage: host ENVELOPE TABLE CACHED FETCHED\n");
         return 1;

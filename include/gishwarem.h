@@ -18,6 +18,10 @@
 extern "C" {
 #endif
 
+/* The version of this header. It is raised where an answer or a signature changes; the built library has its own, which
+ * gw_version answers: a host may compare them once. */
+#define GW_VERSION 1u
+
 /* Refusal numbers. */
 #define GW_ACCEPTED 0u            /* not refused */
 #define GW_TOO_LONG 1u            /* record or list longer than 65,535 bytes */
@@ -70,8 +74,8 @@ extern "C" {
 #define GW_RIGHTS_SEED 2u   /* seed keys */
 
 /* The verdict on a security descriptor. */
-#define GW_VERDICT_IS_NO 0u  /* no */
-#define GW_VERDICT_IS_YES 1u /* yes */
+#define GW_ACCESS_DENIED 0u  /* no */
+#define GW_ACCESS_ALLOWED 1u /* yes */
 
 /* The root key of a request. */
 #define GW_ROOT_NONE 0u  /* none is named */
@@ -97,8 +101,8 @@ typedef struct gw_part {
 /* A group key identifier. */
 typedef struct gw_identifier {
     uint32_t l0; /* L0 index */
-    uint32_t l1; /* L1 index, 0 to 31 */
-    uint32_t l2; /* L2 index, 0 to 31 */
+    uint32_t l1; /* L1 index; in an answer 0 to 31 */
+    uint32_t l2; /* L2 index; in an answer 0 to 31 */
 } gw_identifier;
 
 /* A root key identifier. */
@@ -219,7 +223,7 @@ typedef struct gw_decision_answer {
     uint32_t granted; /* GW_GRANTED_.. */
     uint32_t form;    /* GW_FORM_.. */
     gw_identifier at; /* the identifier granted */
-    size_t row;       /* row of the root table, counted from 0 */
+    size_t row;       /* row of the root table, counted from 0; 0 beside GW_GRANTED_CREATE */
 } gw_decision_answer;
 
 /* A choice between two envelopes. */
@@ -230,6 +234,9 @@ typedef struct gw_choice_answer {
     uint32_t reserved; /* 0 */
     gw_part place;     /* where that key stands in that envelope */
 } gw_choice_answer;
+
+/* The version of the built library: GW_VERSION of the header that it was built with. */
+uint32_t gw_version(void);
 
 /* Reads a Key List Entry. */
 gw_entry_answer gw_entry_read(const uint8_t *entry, size_t len);
@@ -262,27 +269,27 @@ gw_written_answer gw_envelope_write(uint8_t *out, size_t room, gw_head head, con
                                     const uint8_t *forest, size_t forest_len, const uint8_t *l1_key, size_t l1_key_len,
                                     const uint8_t *l2_key, size_t l2_key_len);
 
-/* What an envelope's keys reach. */
+/* What an envelope's keys reach: nothing if it is public or keyless. It is refused what gw_envelope_read refuses. */
 gw_reach_answer gw_envelope_reach(const uint8_t *envelope, size_t len);
 
-/* What a form reaches at an identifier. */
+/* What a form reaches at an identifier: the reach of a seed envelope there with just those keys, refused 5, then 11, as it would be. */
 gw_reach_answer gw_form_reach(uint32_t form, gw_identifier at);
 
 /* The identifier of a FILETIME reading. */
 gw_identifier_answer gw_time_identifier(uint64_t time);
 
-/* The reading at which an identifier starts. */
+/* The reading at which an identifier starts; refused 5, then 21. */
 gw_start_answer gw_identifier_start(gw_identifier at);
 
-/* The next older identifier of the same L0 group; (L0, 0, 0) has none. */
+/* The next older identifier of the same L0 group; (L0, 0, 0) has none, which is no refusal. Refused 5. */
 gw_identifier_answer gw_identifier_older(gw_identifier at);
 
-/* The GetKey decision: GW_VERDICT_IS_.., GW_RIGHTS_.., a request, the clock as a FILETIME, and the root table: rows of 32 bytes,
+/* The GetKey decision: GW_ACCESS_.., GW_RIGHTS_.., a request, the clock as a FILETIME, and the root table: rows of 32 bytes,
  * each a root key identifier (16), its use-start time (8) and its create time (8), times with the most significant byte first. */
 gw_decision_answer gw_decide(uint32_t verdict, uint32_t rights, gw_request request, uint64_t clock, const uint8_t *table,
                              size_t len);
 
-/* Which of two envelopes serves an identifier under a root key: the cached one if that serves, else the fetched one. */
+/* Which of two envelopes serves an identifier under a root key: the cached one if that serves, else the fetched one, else 23. */
 gw_choice_answer gw_choose(gw_root root, gw_identifier wanted, const uint8_t *cached, size_t cached_len,
                            const uint8_t *fetched, size_t fetched_len);
 

@@ -5,6 +5,10 @@ use lib.Dec.{eqb}
 use Rattle.keys.specs.declared.Form.{Form}
 use Rattle.keys.specs.declared.Form.the-variants.{Keyless, L1Only, L2Only, Both, Public}
 
+-- the version of the C face, raised where an answer or a signature of it changes
+abbrev pub faceVersion : ℕ
+faceVersion = 1
+
 unfoldable pub formCode : Form → ℕ
 formCode Keyless = 0
 formCode L1Only = 1

@@ -12,6 +12,9 @@ use records::Written;
 use rootid::RootId;
 use wire::Span;
 
+// The version of the C face, raised where an answer or a signature of it changes. The header has the same number.
+pub const VERSION: u32 = 1;
+
 // A place in the caller's own bytes.
 #[repr(C)]
 pub struct Part {

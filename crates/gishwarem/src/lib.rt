@@ -7,3 +7,4 @@ pub mod efskeys;
 pub mod entries;
 pub mod envelopes;
 pub mod times;
+pub mod version;

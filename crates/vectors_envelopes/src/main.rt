@@ -1,12 +1,9 @@
-// Document 01, "Group Key Envelope": envelopes read, with their reach totals. Each case is a line: its name, then what the library
-// answers. The file `stdout` beside src/ holds what the paper says.
+// Document 01, "Group Key Envelope" and "Bench cases": envelopes read, with their reach totals. Each case is a line: its name, then the
+// program's own line, by the function that the program calls. The file `stdout` beside src/ holds what the paper says.
 mod heads;
 mod key_lengths;
 mod reader;
 mod texts;
-
-use line::Line;
-use wire::Span;
 
 fn main() {
     heads::run();
@@ -15,10 +12,7 @@ fn main() {
     heads::orders();
 }
 
-// A finished line, on standard output.
-fn print(line: Line) {
-    let ended = line.text(b"\n");
-    let bytes = ended.bytes;
-    let len = ended.len;
-    io::write_all(libc::STDOUT_FILENO, wire::part(&bytes, Span { at: 0, len }));
+// Bytes, on standard output.
+fn write(bytes: &[u8]) {
+    io::write_all(libc::STDOUT_FILENO, bytes);
 }

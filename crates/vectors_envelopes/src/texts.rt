@@ -1,8 +1,6 @@
 // The four texts.
-use crate::print;
 use crate::reader::FRONT;
-use crate::reader::read;
-use line::Line;
+use crate::reader::told;
 
 pub fn run() {
     accepted();
@@ -77,5 +75,5 @@ fn worded(
         ],
     );
     cases::bytes(&mut s, 80, bodies);
-    print(read(Line::new().text(name), cases::first(&s, len)));
+    told(name, cases::first(&s, len));
 }

@@ -1,15 +1,21 @@
-// An envelope with a value of its own in each field, with all that it shows; and written again.
+// Two envelopes with all that they show, each written again: one with a value of its own in each field, and one that another
+// implementation made (sample data of the test suite of Samba 4.22), which stands on standard input.
 use crate::print;
-use cases::FILL;
 use cases::MARK;
 use envelope::Bodies;
 use envelope::EnvelopePart;
 use envelope::EnvelopeRead;
 use envelope::Head;
+use input::Input;
 use line::Line;
 use wire::Span;
 
 pub fn run() {
+    own();
+    peer();
+}
+
+fn own() {
     let mut s = [0; 226];
     cases::envelope(
         &mut s,
@@ -19,6 +25,44 @@ pub fn run() {
     );
     cases::bytes(&mut s, 80, b"a\0\0\0p\0\0qrsb\0c\0\0\0\0\0key");
     view(&s);
+}
+
+fn peer() {
+    let mut buffer = io::large_buffer();
+    if let Input::Bytes(len) = input::read_all(libc::STDIN_FILENO, &mut buffer) {
+        let s = cases::first(&buffer, len);
+        print(envline::shown(Line::new().text(b"peer: "), s));
+        view(s);
+        names(s);
+    }
+}
+
+// The names in the peer's texts.
+fn names(s: &[u8]) {
+    named(
+        b"peer: KDF algorithm: ",
+        envelope::part(s, EnvelopePart::Kdf),
+        b"S\0P\08\00\00\0_\01\00\08\0_\0C\0T\0R\0_\0H\0M\0A\0C\0\0\0",
+    );
+    named(
+        b"peer: agreement algorithm: ",
+        envelope::part(s, EnvelopePart::Agreement),
+        b"D\0H\0\0\0",
+    );
+    named(
+        b"peer: domain: ",
+        envelope::part(s, EnvelopePart::Domain),
+        b"e\0x\0a\0m\0p\0l\0e\0.\0c\0o\0m\0\0\0",
+    );
+    named(
+        b"peer: forest: ",
+        envelope::part(s, EnvelopePart::Forest),
+        envelope::part(s, EnvelopePart::Domain),
+    );
+}
+
+fn named(name: &[u8], text: &[u8], expected: &[u8]) {
+    print(cases::compared(Line::new().text(name), text, expected));
 }
 
 fn view(s: &[u8]) {
@@ -73,10 +117,13 @@ fn place(line: Line, span: Span) -> Line {
     words::span(line.text(b" "), span)
 }
 
-// What was read from an accepted envelope is written, and the bytes compared.
+// What was read from an accepted envelope is written into as many bytes, and they are compared.
 fn rewritten(head: Head, s: &[u8]) {
-    let mut out = [FILL; 226];
-    print(rewrite(Line::new().text(b"envelope rewritten: "), &mut out, head, s));
+    let mut out = io::large_buffer();
+    if s.len() <= out.len() {
+        let line = Line::new().text(b"envelope rewritten: ");
+        print(rewrite(line, &mut out[0..s.len()], head, s));
+    }
 }
 
 fn rewrite(line: Line, out: &mut [u8], head: Head, s: &[u8]) -> Line {

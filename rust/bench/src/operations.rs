@@ -376,7 +376,7 @@ pub fn decide<F>(meter: Meter<F>, asked: Asked, rows: usize) -> F {
         // SAFETY: pointer and length are those of one slice, lent for the call.
         |decide| unsafe {
             decide(
-                codes::VERDICT_IS_YES,
+                codes::ACCESS_ALLOWED,
                 codes::RIGHTS_SEED,
                 black_box(request),
                 black_box(CLOCK),

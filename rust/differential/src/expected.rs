@@ -333,7 +333,7 @@ pub fn decide(
         l1: request.l1,
         l2: request.l2,
     };
-    let is_yes = verdict == codes::VERDICT_IS_YES;
+    let is_yes = verdict == codes::ACCESS_ALLOWED;
     match decision::decide(is_yes, rights(rights_code), &asked, clock, table) {
         Ok(answer) => {
             let (granted, row) = match answer.row {

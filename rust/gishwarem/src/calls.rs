@@ -8,6 +8,11 @@
 use crate::raw;
 use crate::Bodies;
 
+pub(crate) fn version() -> u32 {
+    // SAFETY: nothing is handed in.
+    unsafe { raw::gw_version() }
+}
+
 pub(crate) fn entry_read(entry: &[u8]) -> raw::EntryAnswer {
     // SAFETY: pointer and length are a slice's.
     unsafe { raw::gw_entry_read(entry.as_ptr(), entry.len()) }

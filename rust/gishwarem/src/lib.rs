@@ -75,3 +75,12 @@ pub use rootid::RootId;
 pub use serving::{serving_key, SeedKey, ServingKey, Source};
 pub use time::FileTime;
 pub use walk::{ListEntry, Walk};
+
+/// The version of the library that was linked. [`raw::VERSION`] is that of the declarations here: a host may compare them once.
+///
+/// ```
+/// assert_eq!(gishwarem::version(), gishwarem::raw::VERSION);
+/// ```
+pub fn version() -> u32 {
+    calls::version()
+}

@@ -9,7 +9,11 @@
 
 pub mod codes;
 
-/// A part of the caller's bytes.
+/// The version of the header that these declarations follow.
+pub const VERSION: u32 = 1;
+
+/// A part of the caller's bytes. Both are 0 beside a refusal, at the end of a list, and for an absent SID; an absent body of an
+/// envelope has length 0 at its place in the layout.
 #[repr(C)]
 #[derive(Debug, Clone, Copy, PartialEq, Eq, Default)]
 pub struct Part {
@@ -25,9 +29,9 @@ pub struct Part {
 pub struct Identifier {
     /// L0 index.
     pub l0: u32,
-    /// L1 index.
+    /// L1 index; in an answer 0 to 31.
     pub l1: u32,
-    /// L2 index.
+    /// L2 index; in an answer 0 to 31.
     pub l2: u32,
 }
 
@@ -241,7 +245,7 @@ pub struct DecisionAnswer {
     pub form: u32,
     /// The identifier granted.
     pub at: Identifier,
-    /// Row of the root table, counted from 0.
+    /// Row of the root table, counted from 0; 0 beside a root key to create.
     pub row: usize,
 }
 
@@ -281,6 +285,8 @@ const _: () = {
 
 #[link(name = "gishwarem", kind = "static")]
 extern "C" {
+    /// The version of the built library.
+    pub fn gw_version() -> u32;
     /// Reads a Key List Entry.
     pub fn gw_entry_read(entry: *const u8, len: usize) -> EntryAnswer;
     /// Writes a Key List Entry at the start of `out`; a refusal changes no byte of it.
@@ -332,9 +338,9 @@ extern "C" {
         l2_key: *const u8,
         l2_key_len: usize,
     ) -> WrittenAnswer;
-    /// What an envelope's keys reach.
+    /// What an envelope's keys reach: nothing if it is public or keyless.
     pub fn gw_envelope_reach(envelope: *const u8, len: usize) -> ReachAnswer;
-    /// What a form reaches at an identifier.
+    /// What a form reaches at an identifier: the reach of a seed envelope there with just those keys.
     pub fn gw_form_reach(form: u32, at: Identifier) -> ReachAnswer;
     /// The identifier of a FILETIME reading.
     pub fn gw_time_identifier(time: u64) -> IdentifierAnswer;
@@ -351,7 +357,7 @@ extern "C" {
         table: *const u8,
         len: usize,
     ) -> DecisionAnswer;
-    /// Which of two envelopes serves an identifier: the cached one if that serves, else the fetched one.
+    /// Which of two envelopes serves an identifier: the cached one if that serves, else the fetched one, else 23.
     pub fn gw_choose(
         root: Root,
         wanted: Identifier,

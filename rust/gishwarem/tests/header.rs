@@ -75,3 +75,10 @@ fn codes_have_the_headers_names_and_numbers() {
         .collect();
     assert_eq!(definitions("/* Algorithms", "/* A part of"), constants);
 }
+
+/// The header, these declarations and the built library have one version.
+#[test]
+fn the_version_is_the_headers() {
+    assert_eq!(gishwarem::raw::VERSION, defined("GW_VERSION"));
+    assert_eq!(gishwarem::version(), defined("GW_VERSION"));
+}

@@ -111,7 +111,7 @@ fn valid(rng: &mut Rng) -> Question {
         rows[suits].use_start = rng.pick(&[0, named * STEP]);
     }
     Question {
-        verdict: codes::VERDICT_IS_YES,
+        verdict: codes::ACCESS_ALLOWED,
         rights: if latest {
             rng.pick(&[codes::RIGHTS_PUBLIC, codes::RIGHTS_SEED])
         } else {

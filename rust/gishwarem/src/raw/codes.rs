@@ -36,9 +36,9 @@ pub const RIGHTS_PUBLIC: u32 = 1;
 pub const RIGHTS_SEED: u32 = 2;
 
 /// The verdict no.
-pub const VERDICT_IS_NO: u32 = 0;
+pub const ACCESS_DENIED: u32 = 0;
 /// The verdict yes.
-pub const VERDICT_IS_YES: u32 = 1;
+pub const ACCESS_ALLOWED: u32 = 1;
 
 /// No root key is named.
 pub const ROOT_NONE: u32 = 0;
