@@ -7,6 +7,7 @@ ghost use Rattle.refusal.specs.Chain.{firstOf};
 ghost use Rattle.wire.specs.Parts.{partOf, onto, joined};
 ghost use Rattle.records.specs.Writing.{outputOf};
 ghost use Rattle.keys.specs.KeyRule.{keyChecks};
+ghost use Rattle.keys.specs.Forms.{keysOf};
 ghost use Rattle.envelope.specs.Layout.{headOf, isPublic, lengthsOf, endAt, bodiesOf, bodySpan};
 ghost use Rattle.envelope.specs.Reading.{headChecks, fourTexts, layoutChecks, envelopeChecks, shown, envelopeOf, spanOf, envelopeSpan, envelopePart, formOf};
 ghost use Rattle.envelope.specs.Writing.{given, envelopeLength, headPieces, envelopeBytes, writeChecks, envelopeWritten};
@@ -15,6 +16,7 @@ use gkid::L0;
 use gkid::L1;
 use gkid::L2;
 use keys::Form;
+use keys::SeedKeys;
 use records::LIMIT;
 use records::Written;
 use records::grown;
@@ -142,6 +144,19 @@ pub fn form_of(envelope: Envelope) -> Form
         return Form::L2Only;
     }
     Form::Both
+}
+
+// The seed keys of that form: those that are there, unless the envelope is public.
+pub fn seed_keys_of(envelope: Envelope) -> SeedKeys
+    ensures { λ r. ⌜ r ≡ keysOf (formOf envelope) ⌝ }
+{
+    let bodies = envelope.bodies;
+    let head = envelope.head;
+    let seed = !is_public(head.flags);
+    SeedKeys {
+        l1: seed & (bodies.l1_key.len != 0),
+        l2: seed & (bodies.l2_key.len != 0),
+    }
 }
 
 // What an envelope shows, or its refusal.

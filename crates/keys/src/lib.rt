@@ -135,10 +135,11 @@ impl SeedKeys {
     pub fn judge(self, at: Gkid) -> Outcome
         ensures { λ r. ⌜ r ≡ firstOf (seedChecks self at) ⌝ }
     {
+        if at.index_above_31() {
+            return Outcome::Refused(Refusal::IndexAbove31);
+        }
         let l1 = seed_key_length(self.l1);
         let l2 = seed_key_length(self.l2);
-        Outcome::Accepted
-            .refuse_if(at.index_above_31(), Refusal::IndexAbove31)
-            .then(judge(false, at, 0, l1, l2))
+        judge(false, at, 0, l1, l2)
     }
 }

@@ -111,12 +111,12 @@ impl Reach {
     pub fn of(keys: SeedKeys, at: Gkid) -> Reach
         ensures { λ r. ⌜ r ≡ keysReach keys at ⌝ }
     {
-        match keys.judge(at) {
-            Outcome::Accepted => Reach {
-                outcome: Outcome::Accepted,
-                rows: map(keys, at),
-            },
-            Outcome::Refused(refusal) => Reach::refused(refusal),
+        if let Outcome::Refused(refusal) = keys.judge(at) {
+            return Reach::refused(refusal);
+        }
+        Reach {
+            outcome: Outcome::Accepted,
+            rows: map(keys, at),
         }
     }
 

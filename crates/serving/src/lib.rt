@@ -6,7 +6,7 @@ ghost use Rattle.serving.specs.Reach.{envelopeReach};
 ghost use Rattle.serving.specs.Choice.{keyFor, servedBy, choiceOf, chosenPart, chosenBlock, chosenStart};
 use envelope::Envelope;
 use envelope::EnvelopeRead;
-use envelope::form_of;
+use envelope::seed_keys_of;
 use gkid::Gkid;
 use reach::Reach;
 use rootid::RootId;
@@ -39,9 +39,11 @@ pub fn envelope_reach(s: &[u8]) -> Reach
         EnvelopeRead::Accepted(envelope) => {
             let head = envelope.head;
             let at = head.at;
-            Reach::of(form_of(envelope).keys(), at)
+            return Reach::of(seed_keys_of(envelope), at);
         }
-        EnvelopeRead::Refused(refusal) => Reach::refused(refusal),
+        EnvelopeRead::Refused(refusal) => {
+            return Reach::refused(refusal);
+        }
     }
 }
 
@@ -49,7 +51,7 @@ pub fn envelope_reach(s: &[u8]) -> Reach
 fn key_for(envelope: Envelope, wanted: Gkid) -> Served
     ensures { λ r. ⌜ r ≡ keyFor envelope wanted ⌝ }
 {
-    let keys = form_of(envelope).keys();
+    let keys = seed_keys_of(envelope);
     let bodies = envelope.bodies;
     let head = envelope.head;
     let at = head.at;
