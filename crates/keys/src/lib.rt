@@ -1,6 +1,7 @@
 // Document 01, "Group Key Envelope", 11, and "The GetKey decision", Form: the rule on the lengths of an envelope's two keys, a key
 // written, and the forms, which say what keys there are.
 ghost use mathlib.Core.Path.{_≡_};
+ghost use mathlib.Core.Bool.{false, not};
 ghost use Rattle.refusal.specs.Chain.{firstOf};
 ghost use Rattle.wire.specs.Parts.{onto};
 ghost use Rattle.keys.specs.KeyRule.{l1KeyAllowed, l2KeyAllowed, keysAllowed, keyChecks};
@@ -123,14 +124,15 @@ pub fn seed_form(at: Gkid) -> Form
     Form::Both
 }
 
-// The length of a seed key that is present or absent.
-fn seed_key_length(present: bool) -> usize
-    ensures { λ r. ⌜ r ≡ seedKeyLength present ⌝ }
-{
-    if present { 64 } else { 0 }
-}
-
 impl SeedKeys {
+    // What the key rule comes to for a seed's 64-byte keys: no L1 key at L1 = 0 and L2 not 31, no L2 key at L2 = 31.
+    fn are_barred(self, at: Gkid) -> bool
+        ensures { λ r. ⌜ r ≡ not (keysAllowed false at 0 (seedKeyLength (self .l1)) (seedKeyLength (self .l2))) ⌝ }
+    {
+        let last = at.l2.0 == 31;
+        (self.l1 & (at.l1.0 == 0) & !last) | (self.l2 & last)
+    }
+
     // What a seed envelope at an identifier with just those keys is answered: 5, then the key rule.
     pub fn judge(self, at: Gkid) -> Outcome
         ensures { λ r. ⌜ r ≡ firstOf (seedChecks self at) ⌝ }
@@ -138,8 +140,9 @@ impl SeedKeys {
         if at.index_above_31() {
             return Outcome::Refused(Refusal::IndexAbove31);
         }
-        let l1 = seed_key_length(self.l1);
-        let l2 = seed_key_length(self.l2);
-        judge(false, at, 0, l1, l2)
+        if self.are_barred(at) {
+            return Outcome::Refused(Refusal::KeyLength);
+        }
+        Outcome::Accepted
     }
 }
