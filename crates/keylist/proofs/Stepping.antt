@@ -5,6 +5,7 @@ use Rattle.refusal.specs.declared.Outcome.the-variants as outcome
 use Rattle.refusal.specs.declared.Refusal.{Refusal}
 use Rattle.refusal.specs.declared.Refusal.the-variants.{TooLong, Short}
 use Rattle.refusal.specs.Chain.{firstOf, unlessRefused}
+use Rattle.refusal.specs.Number.{outcomeNumber}
 use Rattle.lemmas.proofs.Cases.{cond-cases, or-false}
 use Rattle.refusal.proofs.Chains.{first-here, first-next, accepted-pass, pass-accepted, first-append, append-accepted}
 use Rattle.wire.specs.declared.Span.{Span}
@@ -22,7 +23,7 @@ use Rattle.keylist.specs.declared.Step.the-variants as step
 use Rattle.keylist.specs.declared.Advance.{Advance}
 use Rattle.keylist.specs.declared.ListRead.{ListRead}
 use Rattle.keylist.specs.declared.ListRead.the-variants as list
-use Rattle.keylist.specs.Reading.{countOf, listChecks, lengthAt, recordAt, extentChecks, extentOf, placeChecks, entriesFrom}
+use Rattle.keylist.specs.Reading.{countOf, listChecks, lengthAt, recordAt, extentChecks, extentOf, boundsNumber, boundsSpan, placeChecks, entriesFrom}
 use Rattle.keylist.specs.Passing.{judgedAt}
 use Rattle.keylist.specs.Stepping.{foundAt, endAt, entryStep, stepOf, placeAfter, arrived, advanceOf}
 
@@ -85,6 +86,16 @@ lying s at span accepted is =
 pub lies : (s : List ℕ) (at : ℕ) (span : Span) → extentOf s at ≡ bounds.Record span → Lies s at span
 unfolding extentOf
 lies s at span e = let told = told-record s at span (firstOf (extentChecks s at)) e in lying s at span (told .0) (told .1)
+
+-- What `extent` promises of its answer: the number of the first check that applies, and a place inside the list.
+pub extent-told : (s : List ℕ) (at : ℕ) {b : Bounds} → b ≡ extentOf s at
+    → (b ≡ extentOf s at) × ((boundsNumber b ≡ outcomeNumber (firstOf (extentChecks s at))) × (boundsSpan b .at + boundsSpan b .len ≤ length s))
+unfolding extentOf unlessRefused boundsNumber boundsSpan outcomeNumber
+extent-told s at e = (e, rw e (told (firstOf (extentChecks s at)) refl))
+  where
+    told : (o : Outcome) → firstOf (extentChecks s at) ≡ o → (boundsNumber (atPlace s at o) ≡ outcomeNumber o) × (boundsSpan (atPlace s at o) .at + boundsSpan (atPlace s at o) .len ≤ length s)
+    told outcome.Accepted h = let l = lying s at _ h refl in (refl, omega (arith, l .low, l .high))
+    told (outcome.Refused r) h = (refl, omega arith)
 
 -- The outcome at a place: the list rule's refusal, or what the entry's reader says of its record.
 pub place-barred : (s : List ℕ) (at : ℕ) (r : Refusal) → extentOf s at ≡ bounds.Refused r → firstOf (placeChecks s at) ≡ outcome.Refused r

@@ -6,6 +6,7 @@ use lib.Dec.{ltb, eqb}
 use lib.ListN.{length}
 use Rattle.refusal.specs.declared.Refusal.the-variants.{BytesLeft}
 use Rattle.refusal.specs.Chain.{firstOf, unlessRefused}
+use Rattle.refusal.specs.Number.{numberOf}
 use Rattle.keyentry.specs.Reading.{shown}
 use Rattle.keylist.specs.declared.Place.{Place}
 use Rattle.keylist.specs.declared.Found.{Found}
@@ -33,6 +34,27 @@ entryStep s p = unlessRefused (λ r. Refused r (p .index)) (firstOf (placeChecks
 -- the walk judges and shows each entry in turn, then the end or the refusal
 unfoldable pub stepOf : List ℕ → Place → Step
 stepOf s p = unlessRefused (λ r. Refused r 0) (firstOf (listChecks s)) (cond (ltb (p .index) (countOf s)) (entryStep s p) (endAt s (p .at)))
+
+-- document 01's numbers: 0 for an entry and for the end, or the refusal's number
+unfoldable pub stepNumber : Step → ℕ
+stepNumber (Entry found) = 0
+stepNumber End = 0
+stepNumber (Refused r index) = numberOf r
+
+-- the entry's index; a refusal given for an entry also tells it: here that number isn't zeroed
+unfoldable pub stepIndex : Step → ℕ
+stepIndex (Entry found) = found .index
+stepIndex End = 0
+stepIndex (Refused r index) = index
+
+-- what an entry shows; zeros at the end and on a refusal
+abbrev pub nothing : Found
+nothing = record { index = 0; at = 0; entry = record { flags = 0; item = record { at = 0; len = 0 }; fek = record { at = 0; len = 0 } } }
+
+unfoldable pub stepFound : Step → Found
+stepFound (Entry found) = found
+stepFound End = nothing
+stepFound (Refused r index) = nothing
 
 -- past an entry the place moves to the next one; at the end and at a refusal it stays, so that asked again it is that again
 unfoldable pub placeAfter : Step → List ℕ → Place → Place

@@ -1,6 +1,10 @@
 // Document 01, "Key List Entry and list": a list of Key List Entries, judged whole and walked entry by entry.
 ghost use mathlib.Core.Path.{_≡_};
-ghost use Rattle.keylist.specs.Reading.{extentOf, listOf};
+ghost use Prim.Native.Nat.{_+_, _≤_};
+ghost use lib.ListN.{length};
+ghost use Rattle.refusal.specs.Chain.{firstOf};
+ghost use Rattle.refusal.specs.Number.{outcomeNumber};
+ghost use Rattle.keylist.specs.Reading.{extentChecks, extentOf, boundsNumber, boundsSpan, listOf};
 ghost use Rattle.keylist.specs.Passing.{judgedAt};
 ghost use Rattle.keylist.specs.Stepping.{endAt, arrived, advanceOf};
 use keyentry::Entry;
@@ -89,7 +93,9 @@ pub fn next_step(list: &[u8], place: Place) -> Advance
 
 // The list rule: the record at a place is its Length bytes, 20 at least, which lie inside; else 2 or 3.
 pub fn extent(list: &[u8], at: usize) -> Bounds
-    ensures { λ r. ⌜ r ≡ extentOf (now (list .entry)) at ⌝ }
+    ensures answer { λ r. ⌜ r ≡ extentOf (now (list .entry)) at ⌝ }
+    ensures number { λ r. ⌜ boundsNumber r ≡ outcomeNumber (firstOf (extentChecks (now (list .entry)) at)) ⌝ }
+    ensures inside { λ r. ⌜ boundsSpan r .at + boundsSpan r .len ≤ length (now (list .entry)) ⌝ }
 {
     if list.len() < at {
         return Bounds::Refused(Refusal::Short);
