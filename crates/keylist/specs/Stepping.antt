@@ -7,7 +7,11 @@ use lib.ListN.{length}
 use Rattle.refusal.specs.declared.Refusal.the-variants.{BytesLeft}
 use Rattle.refusal.specs.Chain.{firstOf, unlessRefused}
 use Rattle.refusal.specs.Number.{numberOf}
-use Rattle.keyentry.specs.Reading.{shown}
+use Rattle.wire.specs.declared.Span.{Span}
+use Rattle.wire.specs.Parts.{partOf}
+use Rattle.keyentry.specs.declared.EntryRead.the-variants.{Accepted}
+use Rattle.keyentry.specs.declared.EntryPart.{EntryPart}
+use Rattle.keyentry.specs.Reading.{shown, spanOf}
 use Rattle.keylist.specs.declared.Place.{Place}
 use Rattle.keylist.specs.declared.Found.{Found}
 use Rattle.keylist.specs.declared.Step.{Step}
@@ -68,3 +72,16 @@ arrived s p step = record { step = step; place = placeAfter step s p }
 
 abbrev pub advanceOf : List ℕ → Place → Advance
 advanceOf s p = arrived s p (stepOf s p)
+
+-- where a part of the entry that a step shows stands in the list: the entry's place, and the part's in it; 0 and 0 where it shows none
+unfoldable pub stepSpan : Step → EntryPart → Span
+stepSpan (Entry found) which = record { at = found .at + spanOf (Accepted (found .entry)) which .at; len = spanOf (Accepted (found .entry)) which .len }
+stepSpan End which = record { at = 0; len = 0 }
+stepSpan (Refused r index) which = record { at = 0; len = 0 }
+
+abbrev pub listSpan : List ℕ → Place → EntryPart → Span
+listSpan s p which = stepSpan (stepOf s p) which
+
+-- the very bytes of the list, or the empty part
+abbrev pub listPart : List ℕ → Place → EntryPart → List ℕ
+listPart s p which = partOf s (listSpan s p which .at) (listSpan s p which .len)
