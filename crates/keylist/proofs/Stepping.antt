@@ -206,12 +206,12 @@ stands : {o : Outcome} {s : List ℕ} {p q : Place} {f : Found} → Past o s p f
     × (partOf s (stepSpan (step.Entry f) which .at) (stepSpan (step.Entry f) which .len) ≡ entryPart (recordAt s (p .at)) which)
 unfolding stepSpan foundAt
 stands {s = s} {p = p} {f = f} past which =
+    let span = spanOf (entry.Accepted (f .entry)) which in
     let inside : p .at + lengthAt s (p .at) ≤ length s = omega (arith, past .lies .low, past .lies .high) in
     let at : f .at ≡ p .at = ap (λ x. x .at) (past .found) in
     let own = part-inside (recordAt s (p .at)) which in
-    let held : spanOf (entry.Accepted (f .entry)) which .at + spanOf (entry.Accepted (f .entry)) which .len ≤ lengthAt s (p .at) =
-    rw (past .judged, length-part s (p .at) _ inside) at own in
-    (omega arith, rw (past .judged, at) (sym (part-within s (p .at) (lengthAt s (p .at)) _ _ inside held)))
+    let held : span .at + span .len ≤ lengthAt s (p .at) = rw (past .judged, length-part s (p .at) _ inside) at own in
+    (omega arith, rw (past .judged) (ap (λ a. partOf s (a + span .at) (span .len)) at ∙ sym (part-within s (p .at) _ (span .at) (span .len) inside held)))
 
 -- Where a part is told to stand lies inside the list; and for an entry at a place the bytes there are that part of its record.
 pub span-inside : (s : List ℕ) (p : Place) (which : EntryPart) → listSpan s p which .at + listSpan s p which .len ≤ length s

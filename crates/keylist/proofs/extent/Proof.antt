@@ -11,7 +11,7 @@ unfolding extentOf extentChecks firstOf unlessRefused
 extent-spec = tie.close (tie.spec
     (λ c. let a = c .before .before .args in extent-told (a .list .now) (a .at) (rw (lt-ltb (length (a .list .now) - a .at) 20 (omega arith))))
     (λ c. search needs)
-    (λ c. let a = c .before .before .before .args in extent-told (a .list .now) (a .at) (rw (lt-ltb (length (a .list .now) - a .at) 20 (c .if2 .taken))))
+    (λ c. let a = c .before .before .before .args in extent-told (a .list .now) (a .at) (rw (lt-ltb (length (a .list .now) - a .at) 20 (omega arith))))
     (λ c κs. search needs) (λ c. search needs)
-    (λ c. let a = c .before .before .before .before .before .args in extent-told (a .list .now) (a .at) (rw (le-ltb (length (a .list .now) - a .at) 20 (c .before .before .if2 .left), ← c .before .le32-at .ensures, c .if3 .taken)))
-    (λ c. let a = c .before .before .before .before .before .args in extent-told (a .list .now) (a .at) (rw (le-ltb (length (a .list .now) - a .at) 20 (c .before .before .if2 .left), ← c .before .le32-at .ensures, c .if3 .left))))
+    (λ c. let a = c .before .before .before .before .before .args in extent-told (a .list .now) (a .at) (rw (le-ltb (length (a .list .now) - a .at) 20 (omega arith), ← c .before .le32-at .ensures, c .if3 .taken)))
+    (λ c. let a = c .before .before .before .before .before .args in extent-told (a .list .now) (a .at) (rw (le-ltb (length (a .list .now) - a .at) 20 (omega arith), ← c .before .le32-at .ensures, c .if3 .left))))
