@@ -4,6 +4,7 @@ use crate::print;
 use keylist::ListRead;
 use keylist::Place;
 use keylist::Step;
+use keylist::walk::Walk;
 use line::Line;
 use refusal::Refusal;
 
@@ -19,6 +20,7 @@ pub fn run() {
     first_entries();
     orders();
     walks();
+    held();
 }
 
 fn counts() {
@@ -174,6 +176,49 @@ fn step(walked: Walked, list: &[u8]) -> Walked {
     let place = advance.place;
     let line = found(line.text(b" "), step);
     Walked { line, place }
+}
+
+// The same by one walk, which holds the list and its place.
+fn held() {
+    hold(b"held walk: two entries:", 54, 2, SOUND);
+    hold(b"held walk: second misplaced:", 54, 2, MISPLACED);
+}
+
+fn hold(name: &[u8], len: usize, count: u32, second: [u32; 5]) {
+    let mut s = io::large_buffer();
+    put(&mut s, count, SOUND, second);
+    print(told(Line::new().text(name), ask(cases::first(&s, len))));
+}
+
+// What one walk answers when it is asked four times.
+struct Asked {
+    one: Step,
+    two: Step,
+    three: Step,
+    four: Step,
+}
+
+fn ask(list: &[u8]) -> Asked {
+    let mut walk = Walk::over(list);
+    let one = walk.next();
+    let two = walk.next();
+    let three = walk.next();
+    let four = walk.next();
+    Asked {
+        one,
+        two,
+        three,
+        four,
+    }
+}
+
+fn told(line: Line, asked: Asked) -> Line {
+    let one = asked.one;
+    let two = asked.two;
+    let three = asked.three;
+    let four = asked.four;
+    let line = found(found(line.text(b" "), one).text(b" "), two);
+    found(found(line.text(b" "), three).text(b" "), four)
 }
 
 fn found(line: Line, step: Step) -> Line {
