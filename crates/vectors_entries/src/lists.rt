@@ -1,6 +1,7 @@
 // Lists judged whole, and walked entry by entry.
 use crate::entries;
 use crate::print;
+use keyentry::EntryPart;
 use keylist::ListRead;
 use keylist::Place;
 use keylist::Step;
@@ -21,6 +22,7 @@ pub fn run() {
     orders();
     walks();
     held();
+    parts();
 }
 
 fn counts() {
@@ -234,4 +236,25 @@ fn found(line: Line, step: Step) -> Line {
         Step::End => line.text(b"END"),
         Step::Refused(refusal, index) => refused(line, refusal, index),
     }
+}
+
+fn parts() {
+    item(b"part: item of the second: ", SOUND, 4);
+    item(b"part: second misplaced: ", MISPLACED, 0);
+}
+
+// Whether the second entry's item, handed out of the list, is the first n bytes of an item of 4.
+fn item(name: &[u8], second: [u32; 5], n: usize) {
+    let mut s = io::large_buffer();
+    let whole = [4, 0, 0, 0];
+    put(&mut s, 2, SOUND, second);
+    print(cases::compared(
+        Line::new().text(name),
+        keylist::part(
+            cases::first(&s, 54),
+            Place { at: 29, index: 1 },
+            EntryPart::Item,
+        ),
+        cases::first(&whole, n),
+    ));
 }
