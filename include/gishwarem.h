@@ -1,8 +1,9 @@
 /* Gishwarem: key records of encrypted files, group key envelopes and the GetKey decision.
  *
  * Every function answers by value, the refusal's number first: 0 is accepted. On a refusal every other field is zero, but for
- * the index of a list's entry. A part is a place in the caller's own bytes. Nothing is kept between calls, nothing is
- * allocated, and any bytes and numbers get an answer.
+ * the index of a list's entry and the place that a step was asked at. A part is a place in the caller's own bytes; those of a
+ * step count from the entry's first byte, which stands at `at` in the list. Nothing is kept between calls, nothing is allocated,
+ * and any bytes and numbers get an answer.
  *
  * What the caller owes: a pointer and its length name bytes that may be read for the length of the call (written, for `out`),
  * no other thread changes them meanwhile, and `out` shares no byte with what is handed in beside it. A length of 0 goes with any pointer, NULL too.
@@ -141,8 +142,8 @@ typedef struct gw_step_answer {
     uint32_t index;      /* the entry's index, also on a refusal that is given for it */
     uint32_t algorithm;  /* GW_ALGORITHM_.. */
     uint32_t flags;      /* Flags, as they stand */
-    uint32_t next_index; /* index to go on at; at the end the one asked at */
-    size_t next_at;      /* offset to go on at; at the end the one asked at */
+    uint32_t next_index; /* index to go on at; at the end and on a refusal the one asked at */
+    size_t next_at;      /* offset to go on at; at the end and on a refusal the one asked at */
     size_t at;           /* offset of the entry in the list */
     gw_part item;        /* the public key item, counted from the entry's first byte */
     gw_part fek;         /* the FEK, counted from the entry's first byte */
@@ -248,7 +249,8 @@ gw_written_answer gw_entry_write(uint8_t *out, size_t room, uint32_t flags, cons
 /* Judges a list of entries whole. */
 gw_list_answer gw_list_judge(const uint8_t *list, size_t len);
 
-/* One step of a list's walk, which starts at offset 4 and index 0 and goes on at next_at and next_index. */
+/* One step of a list's walk, which starts at offset 4 and index 0 and goes on at next_at and next_index. At the end and on a
+ * refusal that is the place asked at: asked again there, it answers that again. */
 gw_step_answer gw_list_step(const uint8_t *list, size_t len, size_t at, uint32_t index);
 
 /* Reads an EfsKey. */

@@ -9,6 +9,7 @@ use keyentry::Algorithm;
 use keyentry::Entry;
 use keylist::Advance;
 use keylist::ListRead;
+use keylist::Place;
 use keylist::Step;
 use refusal::Refusal;
 
@@ -32,7 +33,7 @@ pub struct ListAnswer {
 }
 
 // A step: found is 1 for an entry, 2 for the end. The entry's parts count from its first byte, which is at `at` in the list. The
-// next place is the one behind the entry; at the end it is the place asked at.
+// next place is the one behind the entry; at the end and on a refusal it is the place asked at.
 #[repr(C)]
 pub struct StepAnswer {
     pub refusal: u32,
@@ -113,14 +114,14 @@ pub fn step_answer(advance: Advance) -> StepAnswer
                 fek: to_part(entry.fek),
             }
         }
-        Step::End => no_entry(0, 2, 0, next.at, next.index),
-        Step::Refused(refusal, told) => no_entry(refusal.number(), 0, told, 0, 0),
+        Step::End => no_entry(0, 2, 0, next),
+        Step::Refused(refusal, told) => no_entry(refusal.number(), 0, told, next),
     }
 }
 
-// A step that shows no entry.
-fn no_entry(refusal: u32, found: u32, index: u32, next_at: usize, next_index: u32) -> StepAnswer
-    ensures { λ r. ⌜ r ≡ noEntry refusal found index «next_at» «next_index» ⌝ }
+// A step that shows no entry: zeros but for these, and the place after it.
+fn no_entry(refusal: u32, found: u32, index: u32, next: Place) -> StepAnswer
+    ensures { λ r. ⌜ r ≡ noEntry refusal found index next ⌝ }
 {
     StepAnswer {
         refusal,
@@ -128,8 +129,8 @@ fn no_entry(refusal: u32, found: u32, index: u32, next_at: usize, next_index: u3
         index,
         algorithm: 0,
         flags: 0,
-        next_index,
-        next_at,
+        next_index: next.index,
+        next_at: next.at,
         at: 0,
         item: Part { at: 0, len: 0 },
         fek: Part { at: 0, len: 0 },

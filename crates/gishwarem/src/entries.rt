@@ -55,7 +55,8 @@ pub extern "C" fn gw_list_judge(list: &[u8]) -> ListAnswer
     list_answer(keylist::judge(list))
 }
 
-// The walk starts at offset 4 and index 0, and goes on at the next place that a step answers.
+// The walk starts at offset 4 and index 0, and goes on at the next place that a step answers. At the end and on a refusal that is
+// the place asked at: asked again there, it answers that again.
 #[no_mangle]
 pub extern "C" fn gw_list_step(list: &[u8], at: usize, index: u32) -> StepAnswer
     ensures { λ r. ⌜ r ≡ stepAnswer (advanceOf (now (list .entry)) (record { at = at; index = index })) ⌝ }

@@ -100,3 +100,19 @@ pub well-formed-list-accepted : (s : List ℕ) → WellFormedList s → listNumb
 unfolding listOf listChecks unlessRefused
 well-formed-list-accepted s w =
     rw (pass-accepted (listChecks s) (le-ltb 65535 (length s) (w .limit), (le-ltb (length s) 4 (w .head), tt))) (entries-accepted (w .entries) s 4 0 (w .head) refl)
+
+-- An accepted list shows its count: the number in its first four bytes.
+entries-counted : (n : ℕ) (s : List ℕ) (at index : ℕ) → listNumber (entriesFrom n s at index) ≡ 0 → entriesFrom n s at index ≡ list.Count (index + n)
+unfolding entriesFrom unlessRefused listNumber
+entries-counted zero s at index z =
+    by-cases (λ t. listNumber (cond t (list.Count index) (list.Refused BytesLeft 0)) ≡ 0 → cond t (list.Count index) (list.Refused BytesLeft 0) ≡ list.Count (index + 0)) (eqb at (length s))
+    (λ q _. ap list.Count (sym (add-zero index)))
+    (λ q w. absurd (number-not-zero BytesLeft w))
+    z
+entries-counted (suc n) s at index z =
+    let told = passed-on (firstOf (placeChecks s at)) index _ z in
+    rw (told .0) (entries-counted n s (at + lengthAt s at) (index + 1) (told .1) ∙ ap list.Count (omega arith))
+
+pub accepted-counted : (s : List ℕ) → listNumber (listOf s) ≡ 0 → listOf s ≡ list.Count (countOf s)
+unfolding listOf unlessRefused
+accepted-counted s z = let told = passed-on (firstOf (listChecks s)) 0 _ z in rw (told .0) (entries-counted (countOf s) s 4 0 (told .1) ∙ ap list.Count (omega arith))

@@ -5,14 +5,17 @@ use Rattle.refusal.specs.declared.Outcome.the-variants as outcome
 use Rattle.refusal.specs.declared.Refusal.{Refusal}
 use Rattle.refusal.specs.declared.Refusal.the-variants.{TooLong, Short}
 use Rattle.refusal.specs.Chain.{firstOf, unlessRefused}
+use Rattle.refusal.specs.Number.{outcomeNumber}
 use Rattle.lemmas.proofs.Cases.{cond-cases, or-false}
 use Rattle.refusal.proofs.Chains.{first-here, first-next, accepted-pass, pass-accepted, first-append, append-accepted}
 use Rattle.wire.specs.declared.Span.{Span}
 use Rattle.wire.specs.Parts.{partOf}
+use Rattle.wire.proofs.Parts.{length-part, part-within}
 use Rattle.keyentry.specs.declared.Entry.{Entry}
 use Rattle.keyentry.specs.declared.EntryRead.the-variants as entry
-use Rattle.keyentry.specs.Reading.{entryChecks, shown, entryOf}
-use Rattle.keyentry.proofs.Reading.{accepted-shown, refused-checks, pass-shown}
+use Rattle.keyentry.specs.declared.EntryPart.{EntryPart}
+use Rattle.keyentry.specs.Reading.{entryChecks, shown, entryOf, spanOf, entryPart}
+use Rattle.keyentry.proofs.Reading.{accepted-shown, refused-checks, pass-shown, part-inside}
 use Rattle.keylist.specs.declared.Bounds.{Bounds}
 use Rattle.keylist.specs.declared.Bounds.the-variants as bounds
 use Rattle.keylist.specs.declared.Place.{Place}
@@ -22,9 +25,9 @@ use Rattle.keylist.specs.declared.Step.the-variants as step
 use Rattle.keylist.specs.declared.Advance.{Advance}
 use Rattle.keylist.specs.declared.ListRead.{ListRead}
 use Rattle.keylist.specs.declared.ListRead.the-variants as list
-use Rattle.keylist.specs.Reading.{countOf, listChecks, lengthAt, recordAt, extentChecks, extentOf, placeChecks, entriesFrom}
+use Rattle.keylist.specs.Reading.{countOf, listChecks, lengthAt, recordAt, extentChecks, extentOf, boundsNumber, boundsSpan, placeChecks, entriesFrom}
 use Rattle.keylist.specs.Passing.{judgedAt}
-use Rattle.keylist.specs.Stepping.{foundAt, endAt, entryStep, stepOf, placeAfter, arrived, advanceOf}
+use Rattle.keylist.specs.Stepping.{foundAt, endAt, entryStep, stepOf, placeAfter, arrived, advanceOf, stepSpan, listSpan, listPart}
 
 -- the step of an outcome
 abbrev stepUnless : Outcome → ℕ → Step → Step
@@ -86,6 +89,16 @@ pub lies : (s : List ℕ) (at : ℕ) (span : Span) → extentOf s at ≡ bounds.
 unfolding extentOf
 lies s at span e = let told = told-record s at span (firstOf (extentChecks s at)) e in lying s at span (told .0) (told .1)
 
+-- What `extent` promises of its answer: the number of the first check that applies, and a place inside the list.
+pub extent-told : (s : List ℕ) (at : ℕ) {b : Bounds} → b ≡ extentOf s at
+    → (b ≡ extentOf s at) × ((boundsNumber b ≡ outcomeNumber (firstOf (extentChecks s at))) × (boundsSpan b .at + boundsSpan b .len ≤ length s))
+unfolding extentOf unlessRefused boundsNumber boundsSpan outcomeNumber
+extent-told s at e = (e, rw e (told (firstOf (extentChecks s at)) refl))
+  where
+    told : (o : Outcome) → firstOf (extentChecks s at) ≡ o → (boundsNumber (atPlace s at o) ≡ outcomeNumber o) × (boundsSpan (atPlace s at o) .at + boundsSpan (atPlace s at o) .len ≤ length s)
+    told outcome.Accepted h = let l = lying s at _ h refl in (refl, omega (arith, l .low, l .high))
+    told (outcome.Refused r) h = (refl, omega arith)
+
 -- The outcome at a place: the list rule's refusal, or what the entry's reader says of its record.
 pub place-barred : (s : List ℕ) (at : ℕ) (r : Refusal) → extentOf s at ≡ bounds.Refused r → firstOf (placeChecks s at) ≡ outcome.Refused r
 unfolding extentOf unlessRefused placeChecks
@@ -124,6 +137,7 @@ pub record Past (o : Outcome) (s : List ℕ) (p : Place) (f : Found) (q : Place)
   pub within : p .index < countOf s
   pub index : q .index ≡ p .index + 1
   pub found : f ≡ foundAt s p
+  pub lies : Lies s (p .at) (record { at = p .at; len = lengthAt s (p .at) })
   pub judged : entryOf (recordAt s (p .at)) ≡ entry.Accepted (f .entry)
   pub rest : resumed o s p ≡ resumed o s q
 
@@ -159,6 +173,7 @@ says-entry s p h outcome.Accepted e =
       within = h;
       index = refl;
       found = refl;
+      lies = lying s (p .at) _ (append-accepted (extentChecks s (p .at)) _ e .0) refl;
       judged = pass-shown (recordAt s (p .at)) (append-accepted (extentChecks s (p .at)) _ e .1);
       rest = rw (one-left (countOf s) (p .index) h, e);
     }
@@ -184,3 +199,30 @@ says outcome.Accepted s p =
 pub stepped : (s : List ℕ) (p : Place) (a : Advance) → a ≡ advanceOf s p → Says (firstOf (listChecks s)) s p (a .step) (a .place)
 unfolding stepOf arrived
 stepped s p a e = subst (λ x. Says (firstOf (listChecks s)) s p (x .step) (x .place)) (sym e) (says (firstOf (listChecks s)) s p)
+
+-- A part of an entry that was found lies inside the list, and is that part of the entry's own record.
+stands : {o : Outcome} {s : List ℕ} {p q : Place} {f : Found} → Past o s p f q → (which : EntryPart)
+    → (stepSpan (step.Entry f) which .at + stepSpan (step.Entry f) which .len ≤ length s)
+    × (partOf s (stepSpan (step.Entry f) which .at) (stepSpan (step.Entry f) which .len) ≡ entryPart (recordAt s (p .at)) which)
+unfolding stepSpan foundAt
+stands {s = s} {p = p} {f = f} past which =
+    let span = spanOf (entry.Accepted (f .entry)) which in
+    let inside : p .at + lengthAt s (p .at) ≤ length s = omega (arith, past .lies .low, past .lies .high) in
+    let at : f .at ≡ p .at = ap (λ x. x .at) (past .found) in
+    let own = part-inside (recordAt s (p .at)) which in
+    let held : span .at + span .len ≤ lengthAt s (p .at) = rw (past .judged, length-part s (p .at) _ inside) at own in
+    (omega arith, rw (past .judged) (ap (λ a. partOf s (a + span .at) (span .len)) at ∙ sym (part-within s (p .at) _ (span .at) (span .len) inside held)))
+
+-- Where a part is told to stand lies inside the list; and for an entry at a place the bytes there are that part of its record.
+pub span-inside : (s : List ℕ) (p : Place) (which : EntryPart) → listSpan s p which .at + listSpan s p which .len ≤ length s
+unfolding stepSpan arrived
+span-inside s p which = told (stepOf s p) (stepped s p (advanceOf s p) refl)
+  where
+    told : (t : Step) → Says (firstOf (listChecks s)) s p t (placeAfter t s p) → stepSpan t which .at + stepSpan t which .len ≤ length s
+    told (step.Entry f) past = stands past which .0
+    told step.End said = omega arith
+    told (step.Refused r index) said = omega arith
+
+pub part-own : (s : List ℕ) (p : Place) (f : Found) (which : EntryPart) → stepOf s p ≡ step.Entry f → listPart s p which ≡ entryPart (recordAt s (p .at)) which
+unfolding arrived
+part-own s p f which e = rw e (stands (subst (λ t. Says (firstOf (listChecks s)) s p t (placeAfter t s p)) e (stepped s p (advanceOf s p) refl)) which .1)

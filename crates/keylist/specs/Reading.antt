@@ -7,6 +7,7 @@ use lib.ListN.{length}
 use Rattle.refusal.specs.declared.Refusal.the-variants.{TooLong, Short, LengthsDisagree, BytesLeft}
 use Rattle.refusal.specs.Chain.{Check, _⇒_, firstOf, unlessRefused}
 use Rattle.refusal.specs.Number.{numberOf}
+use Rattle.wire.specs.declared.Span.{Span}
 use Rattle.wire.specs.Parts.{leAt, partOf}
 use Rattle.keyentry.specs.Reading.{entryChecks}
 use Rattle.keylist.specs.declared.Bounds.{Bounds}
@@ -38,6 +39,15 @@ extentChecks s at =
 -- where the record at a place lies, by that rule
 unfoldable pub extentOf : List ℕ → ℕ → Bounds
 extentOf s at = unlessRefused bounds.Refused (firstOf (extentChecks s at)) (bounds.Record (record { at = at; len = lengthAt s at }))
+
+-- document 01's numbers: 0 and the record's place; or the refusal's number, and zeros
+unfoldable pub boundsNumber : Bounds → ℕ
+boundsNumber (bounds.Record span) = 0
+boundsNumber (bounds.Refused r) = numberOf r
+
+unfoldable pub boundsSpan : Bounds → Span
+boundsSpan (bounds.Record span) = span
+boundsSpan (bounds.Refused r) = record { at = 0; len = 0 }
 
 -- then the entry's checks
 unfoldable pub placeChecks : List ℕ → ℕ → List Check

@@ -6,7 +6,12 @@ use lib.Dec.{ltb, eqb}
 use lib.ListN.{length}
 use Rattle.refusal.specs.declared.Refusal.the-variants.{BytesLeft}
 use Rattle.refusal.specs.Chain.{firstOf, unlessRefused}
-use Rattle.keyentry.specs.Reading.{shown}
+use Rattle.refusal.specs.Number.{numberOf}
+use Rattle.wire.specs.declared.Span.{Span}
+use Rattle.wire.specs.Parts.{partOf}
+use Rattle.keyentry.specs.declared.EntryRead.the-variants.{Accepted}
+use Rattle.keyentry.specs.declared.EntryPart.{EntryPart}
+use Rattle.keyentry.specs.Reading.{shown, spanOf}
 use Rattle.keylist.specs.declared.Place.{Place}
 use Rattle.keylist.specs.declared.Found.{Found}
 use Rattle.keylist.specs.declared.Step.{Step}
@@ -34,6 +39,27 @@ entryStep s p = unlessRefused (λ r. Refused r (p .index)) (firstOf (placeChecks
 unfoldable pub stepOf : List ℕ → Place → Step
 stepOf s p = unlessRefused (λ r. Refused r 0) (firstOf (listChecks s)) (cond (ltb (p .index) (countOf s)) (entryStep s p) (endAt s (p .at)))
 
+-- document 01's numbers: 0 for an entry and for the end, or the refusal's number
+unfoldable pub stepNumber : Step → ℕ
+stepNumber (Entry found) = 0
+stepNumber End = 0
+stepNumber (Refused r index) = numberOf r
+
+-- the entry's index; a refusal given for an entry also tells it: here that number isn't zeroed
+unfoldable pub stepIndex : Step → ℕ
+stepIndex (Entry found) = found .index
+stepIndex End = 0
+stepIndex (Refused r index) = index
+
+-- what an entry shows; zeros at the end and on a refusal
+abbrev pub nothing : Found
+nothing = record { index = 0; at = 0; entry = record { flags = 0; item = record { at = 0; len = 0 }; fek = record { at = 0; len = 0 } } }
+
+unfoldable pub stepFound : Step → Found
+stepFound (Entry found) = found
+stepFound End = nothing
+stepFound (Refused r index) = nothing
+
 -- past an entry the place moves to the next one; at the end and at a refusal it stays, so that asked again it is that again
 unfoldable pub placeAfter : Step → List ℕ → Place → Place
 placeAfter (Entry found) s p = record { at = p .at + lengthAt s (p .at); index = p .index + 1 }
@@ -46,3 +72,16 @@ arrived s p step = record { step = step; place = placeAfter step s p }
 
 abbrev pub advanceOf : List ℕ → Place → Advance
 advanceOf s p = arrived s p (stepOf s p)
+
+-- where a part of the entry that a step shows stands in the list: the entry's place, and the part's in it; 0 and 0 where it shows none
+unfoldable pub stepSpan : Step → EntryPart → Span
+stepSpan (Entry found) which = record { at = found .at + spanOf (Accepted (found .entry)) which .at; len = spanOf (Accepted (found .entry)) which .len }
+stepSpan End which = record { at = 0; len = 0 }
+stepSpan (Refused r index) which = record { at = 0; len = 0 }
+
+abbrev pub listSpan : List ℕ → Place → EntryPart → Span
+listSpan s p which = stepSpan (stepOf s p) which
+
+-- the very bytes of the list, or the empty part
+abbrev pub listPart : List ℕ → Place → EntryPart → List ℕ
+listPart s p which = partOf s (listSpan s p which .at) (listSpan s p which .len)

@@ -1,15 +1,19 @@
 // Document 01, "Key List Entry and list": a list of Key List Entries, judged whole and walked entry by entry.
 ghost use mathlib.Core.Path.{_≡_};
-ghost use Rattle.keylist.specs.Reading.{extentOf, listOf};
+ghost use Prim.Native.Nat.{_+_, _≤_};
+ghost use lib.ListN.{length};
+ghost use Rattle.refusal.specs.Chain.{firstOf};
+ghost use Rattle.refusal.specs.Number.{outcomeNumber};
+ghost use Rattle.keylist.specs.Reading.{extentChecks, extentOf, boundsNumber, boundsSpan, listOf};
 ghost use Rattle.keylist.specs.Passing.{judgedAt};
-ghost use Rattle.keylist.specs.Stepping.{endAt, arrived, advanceOf};
+ghost use Rattle.keylist.specs.Stepping.{endAt, arrived, advanceOf, listSpan, listPart};
 use keyentry::Entry;
+use keyentry::EntryPart;
 use keyentry::EntryRead;
 use records::LIMIT;
 use refusal::Refusal;
 use wire::Span;
 use wire::le32_at;
-use wire::part;
 
 pub mod walk;
 
@@ -74,7 +78,7 @@ pub fn next_step(list: &[u8], place: Place) -> Advance
     let index = place.index;
     match extent(list, at) {
         Bounds::Refused(refusal) => stay(Step::Refused(refusal, index), place),
-        Bounds::Record(span) => match keyentry::read(part(list, span)) {
+        Bounds::Record(span) => match keyentry::read(wire::part(list, span)) {
             EntryRead::Accepted(entry) => Advance {
                 step: Step::Entry(Found { index, at, entry }),
                 place: Place {
@@ -87,9 +91,34 @@ pub fn next_step(list: &[u8], place: Place) -> Advance
     }
 }
 
+// A part of the entry at a place: those very bytes of the list, or the empty part where the step there shows no entry.
+pub fn part(list: &[u8], place: Place, which: EntryPart) -> &[u8]
+    ensures bytes { λ r. ⌜ now r ≡ listPart (now (list .entry)) place which ⌝ }
+    ensures place { λ r. ⌜ (r .ptr .0 ≡ list .entry .ptr .0) × (r .ptr .1 ≡ list .entry .ptr .1 + listSpan (now (list .entry)) place which .at) ⌝ }
+{
+    let step = next_step(list, place).step;
+    match step {
+        Step::Entry(found) => {
+            let entry = found.entry;
+            let span = EntryRead::Accepted(entry).span(which);
+            wire::part(
+                list,
+                Span {
+                    at: found.at + span.at,
+                    len: span.len,
+                },
+            )
+        }
+        Step::End => wire::part(list, Span { at: 0, len: 0 }),
+        Step::Refused(_, _) => wire::part(list, Span { at: 0, len: 0 }),
+    }
+}
+
 // The list rule: the record at a place is its Length bytes, 20 at least, which lie inside; else 2 or 3.
 pub fn extent(list: &[u8], at: usize) -> Bounds
-    ensures { λ r. ⌜ r ≡ extentOf (now (list .entry)) at ⌝ }
+    ensures answer { λ r. ⌜ r ≡ extentOf (now (list .entry)) at ⌝ }
+    ensures number { λ r. ⌜ boundsNumber r ≡ outcomeNumber (firstOf (extentChecks (now (list .entry)) at)) ⌝ }
+    ensures inside { λ r. ⌜ boundsSpan r .at + boundsSpan r .len ≤ length (now (list .entry)) ⌝ }
 {
     if list.len() < at {
         return Bounds::Refused(Refusal::Short);
@@ -128,7 +157,7 @@ fn judge_at(list: &[u8], at: usize) -> Bounds
 {
     match extent(list, at) {
         Bounds::Refused(refusal) => Bounds::Refused(refusal),
-        Bounds::Record(span) => match keyentry::read(part(list, span)) {
+        Bounds::Record(span) => match keyentry::read(wire::part(list, span)) {
             EntryRead::Accepted(_) => Bounds::Record(span),
             EntryRead::Refused(refusal) => Bounds::Refused(refusal),
         },

@@ -1,9 +1,11 @@
 // Lists judged whole, and walked entry by entry.
 use crate::entries;
 use crate::print;
+use keyentry::EntryPart;
 use keylist::ListRead;
 use keylist::Place;
 use keylist::Step;
+use keylist::walk::Walk;
 use line::Line;
 use refusal::Refusal;
 
@@ -19,6 +21,8 @@ pub fn run() {
     first_entries();
     orders();
     walks();
+    held();
+    parts();
 }
 
 fn counts() {
@@ -176,6 +180,49 @@ fn step(walked: Walked, list: &[u8]) -> Walked {
     Walked { line, place }
 }
 
+// The same by one walk, which holds the list and its place.
+fn held() {
+    hold(b"held walk: two entries:", 54, 2, SOUND);
+    hold(b"held walk: second misplaced:", 54, 2, MISPLACED);
+}
+
+fn hold(name: &[u8], len: usize, count: u32, second: [u32; 5]) {
+    let mut s = io::large_buffer();
+    put(&mut s, count, SOUND, second);
+    print(told(Line::new().text(name), ask(cases::first(&s, len))));
+}
+
+// What one walk answers when it is asked four times.
+struct Asked {
+    one: Step,
+    two: Step,
+    three: Step,
+    four: Step,
+}
+
+fn ask(list: &[u8]) -> Asked {
+    let mut walk = Walk::over(list);
+    let one = walk.next();
+    let two = walk.next();
+    let three = walk.next();
+    let four = walk.next();
+    Asked {
+        one,
+        two,
+        three,
+        four,
+    }
+}
+
+fn told(line: Line, asked: Asked) -> Line {
+    let one = asked.one;
+    let two = asked.two;
+    let three = asked.three;
+    let four = asked.four;
+    let line = found(found(line.text(b" "), one).text(b" "), two);
+    found(found(line.text(b" "), three).text(b" "), four)
+}
+
 fn found(line: Line, step: Step) -> Line {
     match step {
         Step::Entry(found) => {
@@ -189,4 +236,25 @@ fn found(line: Line, step: Step) -> Line {
         Step::End => line.text(b"END"),
         Step::Refused(refusal, index) => refused(line, refusal, index),
     }
+}
+
+fn parts() {
+    item(b"part: item of the second: ", SOUND, 4);
+    item(b"part: second misplaced: ", MISPLACED, 0);
+}
+
+// Whether the second entry's item, handed out of the list, is the first n bytes of an item of 4.
+fn item(name: &[u8], second: [u32; 5], n: usize) {
+    let mut s = io::large_buffer();
+    let whole = [4, 0, 0, 0];
+    put(&mut s, 2, SOUND, second);
+    print(cases::compared(
+        Line::new().text(name),
+        keylist::part(
+            cases::first(&s, 54),
+            Place { at: 29, index: 1 },
+            EntryPart::Item,
+        ),
+        cases::first(&whole, n),
+    ));
 }

@@ -136,8 +136,8 @@ pub fn list_judge(bytes: &[u8]) -> ListAnswer {
     }
 }
 
-/// Takes one step of a list's walk. A refusal that is given for an entry tells the entry's index; the end keeps the
-/// place.
+/// Takes one step of a list's walk. A refusal that is given for an entry tells the entry's index; the end and a refusal
+/// keep the place.
 #[inline]
 pub fn list_step(bytes: &[u8], place: usize, number: u32) -> StepAnswer {
     match list::step(bytes, place, number) {
@@ -168,6 +168,8 @@ pub fn list_step(bytes: &[u8], place: usize, number: u32) -> StepAnswer {
         Err(refused) => StepAnswer {
             refusal: refused.number,
             index: refused.index,
+            next_index: number,
+            next_at: place,
             ..Default::default()
         },
     }

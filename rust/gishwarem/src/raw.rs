@@ -1,4 +1,5 @@
-//! The C face as `include/gishwarem.h` declares it: structs by value, the refusal's number first, zeros beside a refusal.
+//! The C face as `include/gishwarem.h` declares it: structs by value, the refusal's number first, zeros beside a refusal (but
+//! for the index of a list's entry and the place that a step was asked at).
 //!
 //! Nothing checks these declarations against the library but the tests; the sizes are those that the header asserts.
 //!
@@ -99,9 +100,9 @@ pub struct StepAnswer {
     pub algorithm: u32,
     /// Flags, as they stand.
     pub flags: u32,
-    /// Index to go on at.
+    /// Index to go on at; at the end and on a refusal the one asked at.
     pub next_index: u32,
-    /// Offset to go on at.
+    /// Offset to go on at; at the end and on a refusal the one asked at.
     pub next_at: usize,
     /// Offset of the entry in the list.
     pub at: usize,
@@ -301,7 +302,8 @@ extern "C" {
     ) -> WrittenAnswer;
     /// Judges a list of entries whole.
     pub fn gw_list_judge(list: *const u8, len: usize) -> ListAnswer;
-    /// One step of a list's walk, which starts at offset 4 and index 0 and goes on at the next place.
+    /// One step of a list's walk, which starts at offset 4 and index 0 and goes on at the next place. At the end and on a
+    /// refusal that is the place asked at: asked again there, it answers that again.
     pub fn gw_list_step(list: *const u8, len: usize, at: usize, index: u32) -> StepAnswer;
     /// Reads an EfsKey.
     pub fn gw_efskey_read(key: *const u8, len: usize) -> EfsKeyAnswer;

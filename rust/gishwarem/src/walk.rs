@@ -31,8 +31,9 @@ pub struct ListEntry<'a> {
     pub entry: Entry<'a>,
 }
 
-/// A walk: it holds the lent list and its place, and judges and shows each entry in turn. Behind
-/// the last one it ends; at a refusal it shows that once, then ends.
+/// A walk: it holds the lent list and its place, and judges and shows each entry in turn.
+/// [`step`](Walk::step) answers the end or the refusal behind them, and that again if asked again;
+/// as an iterator it shows a refusal once, then ends.
 ///
 /// Entries are shown before a later refusal is known. [`List::read`](crate::List::read) judges the
 /// whole first.
@@ -55,23 +56,16 @@ pub struct ListEntry<'a> {
 #[derive(Debug, Clone)]
 pub struct Walk<'a> {
     list: &'a [u8],
-    place: Option<Place>,
-}
-
-/// Where a walk stands: the offset of the next entry, and its index.
-#[derive(Debug, Clone, Copy)]
-struct Place {
+    /// The offset of the next entry.
     at: usize,
+    /// Its index.
     index: u32,
-}
-
-impl Place {
-    /// Behind the count, at index 0.
-    const START: Place = Place { at: 4, index: 0 };
+    /// The iterator has shown a refusal.
+    refused: bool,
 }
 
 impl<'a> Walk<'a> {
-    /// A walk from the list's start. Any bytes can be walked.
+    /// A walk from the list's start: behind the count, at index 0. Any bytes can be walked.
     ///
     /// ```
     /// use gishwarem::Walk;
@@ -82,16 +76,51 @@ impl<'a> Walk<'a> {
     pub fn over(list: &'a [u8]) -> Walk<'a> {
         Walk {
             list,
-            place: Some(Place::START),
+            at: 4,
+            index: 0,
+            refused: false,
         }
     }
 
-    /// Moves on behind the entry that a step found, and shows it.
-    fn enter(&mut self, step: &raw::StepAnswer) -> ListEntry<'a> {
-        self.place = Some(Place {
-            at: step.next_at,
-            index: step.next_index,
-        });
+    /// The next entry, or `None` at the end, or the refusal. Past an entry the walk moves on; at the
+    /// end and at a refusal it stays, so that asked again it answers that again.
+    ///
+    /// ```
+    /// use gishwarem::{Entry, ListRefusal, Refusal, Walk};
+    ///
+    /// // A count of 2, and two entries of 25 bytes.
+    /// let mut bytes = [0; 54];
+    /// bytes[0] = 2;
+    /// Entry::write(&mut bytes[4..], 0, &[4, 0, 0, 0], &[0xAB])?;
+    /// Entry::write(&mut bytes[29..], 1, &[4, 0, 0, 0], &[0xCD])?;
+    ///
+    /// let mut walk = Walk::over(&bytes);
+    /// assert_eq!(walk.step()?.map(|found| found.at), Some(4));
+    /// assert_eq!(walk.step()?.map(|found| found.at), Some(29));
+    /// assert_eq!(walk.step(), Ok(None));
+    /// assert_eq!(walk.step(), Ok(None));
+    ///
+    /// // A FEK length of 0 in the second one, at index 1.
+    /// bytes[29 + 8] = 0;
+    /// let mut walk = Walk::over(&bytes);
+    /// assert_eq!(walk.step()?.map(|found| found.at), Some(4));
+    /// let refused = ListRefusal { refusal: Refusal::EmptyItem, index: 1 };
+    /// assert_eq!(walk.step(), Err(refused));
+    /// assert_eq!(walk.step(), Err(refused));
+    /// # Ok::<(), Box<dyn std::error::Error>>(())
+    /// ```
+    pub fn step(&mut self) -> Result<Option<ListEntry<'a>>, ListRefusal> {
+        let step = calls::list_step(self.list, self.at, self.index);
+        (self.at, self.index) = (step.next_at, step.next_index);
+        accepted(step.refusal).map_err(|refusal| ListRefusal {
+            refusal,
+            index: step.index,
+        })?;
+        Ok((step.found == codes::STEP_ENTRY).then(|| self.shown(&step)))
+    }
+
+    /// The entry that a step found: its record ends at the next place.
+    fn shown(&self, step: &raw::StepAnswer) -> ListEntry<'a> {
         let record = raw::Part {
             at: step.at,
             len: step.next_at - step.at,
@@ -108,13 +137,12 @@ impl<'a> Iterator for Walk<'a> {
     type Item = Result<ListEntry<'a>, ListRefusal>;
 
     fn next(&mut self) -> Option<Self::Item> {
-        let place = self.place.take()?;
-        let step = calls::list_step(self.list, place.at, place.index);
-        if let Err(refusal) = accepted(step.refusal) {
-            let index = step.index;
-            return Some(Err(ListRefusal { refusal, index }));
+        if self.refused {
+            return None;
         }
-        (step.found == codes::STEP_ENTRY).then(|| Ok(self.enter(&step)))
+        let step = self.step();
+        self.refused = step.is_err();
+        step.transpose()
     }
 }
 

@@ -72,6 +72,18 @@ fn a_walk_ends_once() {
 }
 
 #[test]
+fn the_last_step_comes_again() {
+    each_edit(&two_entries(), |bytes| {
+        let mut walk = Walk::over(bytes);
+        let mut last = walk.step();
+        while let Ok(Some(_)) = last {
+            last = walk.step();
+        }
+        assert_eq!(walk.step(), last);
+    });
+}
+
+#[test]
 fn an_efskey_that_is_read_is_written_again() {
     let sid = [1, 1, 0, 0, 0, 0, 0, 5, 18, 0, 0, 0];
     let mut record = [0; 45];

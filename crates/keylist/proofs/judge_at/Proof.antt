@@ -9,12 +9,12 @@ use Rattle.keylist.proofs.judge_at.Tie as tie
 
 returns : tie.Need-returns
 unfolding judgedAt unlessRefused
-returns c = rw (place-barred _ _ _ (sym (c .before .before .before .extent .ensures) ∙ c .before .refusal .given .1))
+returns c = rw (place-barred _ _ _ (sym (c .before .before .before .extent .ensures .0) ∙ c .before .refusal .given .1))
 
 -- where the record lies
 found : (c : tie.After-read) → (let x = c .before .before .before .before .before in
     let a = x .before .before .args in Lies (a .list .now) (a .at) (c .before .before .before .span .given .0 .0))
-found c = lies _ _ _ (sym (c .before .before .before .before .before .extent .ensures) ∙ c .before .before .before .span .given .1)
+found c = lies _ _ _ (sym (c .before .before .before .before .before .extent .ensures .0) ∙ c .before .before .before .span .given .1)
 
 returns-2 : tie.Need-returns-2
 unfolding judgedAt unlessRefused

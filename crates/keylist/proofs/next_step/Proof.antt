@@ -35,12 +35,12 @@ returns-4 c =
     let x = c .before .before .before .before in
     let a = x .before .before .before .before .before .before .before .args in
     c .stay3 .ensures
-    ∙ sym (ap (arrived (a .list .now) (a .place)) (wanted x) ∙ entered-refused (a .list .now) (a .place) _ (place-barred _ _ _ (sym (x .extent .ensures) ∙ c .before .before .refusal .given .1)))
+    ∙ sym (ap (arrived (a .list .now) (a .place)) (wanted x) ∙ entered-refused (a .list .now) (a .place) _ (place-barred _ _ _ (sym (x .extent .ensures .0) ∙ c .before .before .refusal .given .1)))
 
 -- where its record lies
 found : (c : tie.After-read) → (let x = c .before .before .before .before .before in
     let a = x .before .before .before .before .before .before .before .args in Lies (a .list .now) (a .place .at) (c .before .before .before .span .given .0 .0))
-found c = lies _ _ _ (sym (c .before .before .before .before .before .extent .ensures) ∙ c .before .before .before .span .given .1)
+found c = lies _ _ _ (sym (c .before .before .before .before .before .extent .ensures .0) ∙ c .before .before .before .span .given .1)
 
 add-t24 : tie.Need-add-t24
 add-t24 c = let l = found (c .before .before .before .before) in omega (arith, ap (λ x. x .len) (l .is), l .high)

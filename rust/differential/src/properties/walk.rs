@@ -37,7 +37,7 @@ fn walk(rng: &mut Rng, tally: &mut Tally) {
         (at, index) = (step.next_at, step.next_index);
     };
 
-    // The last answer has the judge's number and index, and comes again if asked again.
+    // The last answer has the judge's number and index, and comes again if asked again at the place that it gives.
     let ended = ListAnswer {
         refusal: last.refusal,
         count: if last.refusal == 0 { index } else { 0 },
@@ -48,7 +48,7 @@ fn walk(rng: &mut Rng, tally: &mut Tally) {
         assert_eq!(last.found, codes::STEP_END, "{:?}", Hex(&bytes));
         assert_eq!(at, bytes.len(), "{:?}", Hex(&bytes));
     }
-    let again = ask::list_step(rng, &bytes, at, index);
+    let again = ask::list_step(rng, &bytes, last.next_at, last.next_index);
     assert_eq!(again, last, "{:?}", Hex(&bytes));
 }
 
