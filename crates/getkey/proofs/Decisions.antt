@@ -10,12 +10,15 @@ use Rattle.gkid.proofs.Times.{up-to-now}
 use Rattle.getkey.specs.declared.Rights.{Rights}
 use Rattle.request.specs.declared.Request.{Request}
 use Rattle.request.specs.declared.Asked.the-variants.{Latest, Named}
+use Rattle.request.specs.declared.Narrowing.{Narrowing}
+use Rattle.request.specs.declared.Narrowing.the-variants as narrowing
 use Rattle.getkey.specs.declared.Answer.the-variants.{Refused}
-use Rattle.request.specs.Indices.{outOfRange, mixed, laterThanNow, names, namedOf, askedOf}
+use Rattle.request.specs.Indices.{outOfRange, mixed, laterThanNow, names, namedOf}
+use Rattle.request.specs.Narrowed.{narrowedOf}
 use Rattle.roottable.specs.Rows.{tableWrong}
 use Rattle.getkey.specs.Deciding.{rightsTooLow, checks, granting, decision, Starts, answerNumber}
 use Rattle.getkey.specs.Waiting.{Accepted}
-use Rattle.request.proofs.Requests.{Asks, latest, named, asks}
+use Rattle.request.proofs.Requests.{askedOf, narrowed-asks, Asks, latest, named, asks}
 
 -- what checks that are passed say of a request
 pub record Passed (verdict : Bool) (rights : Rights) (q : Request) (present : Gkid) (len : ℕ) : Type 0 where
@@ -34,11 +37,14 @@ passed verdict rights q present len e =
     record { verdict-yes = p .0; ranged = p .1 .0; unmixed = p .1 .1 .0; not-later = p .1 .1 .1 .0; allowed = p .1 .1 .1 .1 .0; table = p .1 .1 .1 .1 .1 .0 }
 
 -- 64 bits hold the start of what is named.
-pub starts : (q : Request) (t : FileTime) → t .0 < 2 ^ 64 → outOfRange q ≡ false → mixed q ≡ false → laterThanNow q (gkidAt t) ≡ false → Starts (askedOf q)
-unfolding askedOf
-starts q t h ranged unmixed not-later = of (asks q ranged unmixed)
+abbrev pub Begins : Narrowing → Type 0
+Begins (narrowing.Asks asked) = Starts asked
+Begins (narrowing.Refused r) = Unit {0}
+
+pub begins : (q : Request) (t : FileTime) → t .0 < 2 ^ 64 → outOfRange q ≡ false → mixed q ≡ false → laterThanNow q (gkidAt t) ≡ false → Begins (narrowedOf q)
+begins q t h ranged unmixed not-later = rw (narrowed-asks q ranged unmixed) (of (asks q ranged unmixed))
   where
-    of : Asks q → Starts (cond (names q) (Named (namedOf q)) Latest)
+    of : Asks q → Starts (askedOf q)
     of (latest e l) = rw e tt
     of (named e g l) = rw e (g, up-to-now (namedOf q) t h g (sym (l (gkidAt t)) ∙ not-later))
 
@@ -51,12 +57,12 @@ passes verdict rights q present len p = pass-accepted _ (p .verdict-yes, (p .ran
 -- An accepted answer: its checks are passed, and it is what is granted.
 pub record Decided (verdict : Bool) (rights : Rights) (q : Request) (t : FileTime) (table : List ℕ) : Type 0 where
   pub checked : Passed verdict rights q (gkidAt t) (length table)
-  pub is : decision verdict rights q t table ≡ granting rights (q .root) (askedOf q) (gkidAt t) table
+  pub is : decision verdict rights q t table ≡ granting rights (q .root) (narrowing.Asks (askedOf q)) (gkidAt t) table
 
 pub passed-decided : (verdict : Bool) (rights : Rights) (q : Request) (t : FileTime) (table : List ℕ) → Passed verdict rights q (gkidAt t) (length table)
     → Decided verdict rights q t table
 unfolding decision unlessRefused
-passed-decided verdict rights q t table p = record { checked = p; is = rw (passes verdict rights q (gkidAt t) (length table) p) }
+passed-decided verdict rights q t table p = record { checked = p; is = rw (passes verdict rights q (gkidAt t) (length table) p, narrowed-asks q (p .ranged) (p .unmixed)) }
 
 pub accepted-decided : (verdict : Bool) (rights : Rights) (q : Request) (t : FileTime) (table : List ℕ) → Accepted (decision verdict rights q t table)
     → Decided verdict rights q t table

@@ -26,10 +26,10 @@ use Rattle.request.specs.declared.Asked.{Asked}
 use Rattle.request.specs.declared.Asked.the-variants.{Latest, Named}
 use Rattle.roottable.specs.declared.Found.{Found}
 use Rattle.roottable.specs.declared.Found.the-variants as found
-use Rattle.request.specs.Indices.{laterThanNow, names, namedOf, askedOf}
+use Rattle.request.specs.Indices.{laterThanNow, names, namedOf}
 use Rattle.getkey.specs.Deciding.{rightsTooLow, grantedAt, formFor, withoutRow, withRow, granting, decision, answerNumber, answerAt, answerForm, answerRow, answerCreates}
 use Rattle.getkey.specs.Waiting.{height, NoLower, Asking, Accepted, NoWorse, reachedBy, ReachesUpTo, answerTo, LosesNothing}
-use Rattle.request.proofs.Requests.{Asks, latest, named, asks}
+use Rattle.request.proofs.Requests.{askedOf, Asks, latest, named, asks}
 use Rattle.getkey.proofs.Decisions.{passed-decided, accepted-decided}
 use Rattle.getkey.proofs.Granted.{Group, granted-group, granted-later}
 
@@ -76,7 +76,7 @@ module _ (verdict : Bool) (q : Request) (table : List ℕ) where
   -- not later than now at the first reading: nor at the second, and no earlier identifier is granted there
   waited : (t t′ : FileTime) → t .0 ≤ t′ .0 → Asks q → laterThanNow q (gkidAt t) ≡ false
       → (laterThanNow q (gkidAt t′) ≡ false) × (later (at-reading t) (at-reading t′) ≡ false)
-  unfolding askedOf grantedAt at-reading
+  unfolding grantedAt at-reading
   waited t t′ h (latest e l) not-later = (l (gkidAt t′), rw e (reading-monotone t t′ h))
   waited t t′ h (named e g l) not-later =
       let up-to = sym (l (gkidAt t)) ∙ not-later in
@@ -98,7 +98,7 @@ module _ (verdict : Bool) (q : Request) (table : List ℕ) where
   -- an accepted answer to a request that names an identifier: of its L0 group, not before it, and in the seed form
   named-answer : (r : Rights) (t : FileTime) → names q ≡ true → Accepted (decision verdict r q t table)
       → Group (namedOf q) (answerAt (decision verdict r q t table)) × (answerForm (decision verdict r q t table) ≡ seedForm (answerAt (decision verdict r q t table)))
-  unfolding granting askedOf
+  unfolding granting
   named-answer r t one e =
       let d = accepted-decided verdict r q t table e in
       let p = d .checked in

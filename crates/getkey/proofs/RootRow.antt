@@ -18,7 +18,7 @@ use Rattle.roottable.specs.declared.Found.{Found}
 use Rattle.roottable.specs.declared.Found.the-variants as found
 use Rattle.getkey.specs.declared.Answer.{Answer}
 use Rattle.getkey.specs.declared.Answer.the-variants.{Granted, Create, Refused}
-use Rattle.request.specs.Indices.{askedOf}
+use Rattle.request.proofs.Requests.{askedOf}
 use Rattle.roottable.specs.Rows.{rowSize, rowCount, suitable, tableWrong}
 use Rattle.roottable.specs.Selection.{chosenRow}
 use Rattle.getkey.specs.Deciding.{wantedOf, withoutRow, withRow, granting, decision}

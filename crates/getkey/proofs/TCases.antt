@@ -27,7 +27,8 @@ use Rattle.request.specs.declared.Root.{Root}
 use Rattle.request.specs.declared.Root.the-variants as root
 use Rattle.request.specs.declared.Request.{Request}
 use Rattle.getkey.specs.declared.Answer.{Answer}
-use Rattle.request.specs.Indices.{below, outside, outOfRange, unset, mixed, laterThenZ, laterThanNow, names, natural, namedOf, askedOf}
+use Rattle.request.specs.Indices.{below, outside, outOfRange, unset, mixed, laterThenZ, laterThanNow, names, indexChecks, natural, namedOf}
+use Rattle.request.specs.Narrowed.{narrowedOf}
 use Rattle.roottable.specs.Rows.{tableWrong, rowAt, suitable, rank}
 use Rattle.roottable.specs.Selection.{every, orElse, firstWhere, firstHighest, chosenRow}
 use Rattle.getkey.specs.Deciding.{rightsTooLow, checks, grantedAt, formFor, wantedOf, withoutRow, withRow, granting, decision, answerNumber, answerAt, answerForm, answerCreates}
@@ -91,7 +92,7 @@ cases =
 
 -- Each is answered as the table says.
 pub t-cases : map (λ c. reply (c .0)) cases ≡ map (λ c. c .1) cases
-unfolding clock id rows asking reply shownOf cases startOf startNumber startShown numberOf firstOf leOf leBytes beOf beBytes partOf leAt beAt indexAbove31 gkidAt rootAt rootBytes sameRoot keysAllowed l1KeyAllowed l2KeyAllowed keysOf seedForm ofGroup l1Reaches l2Reaches reaches bitAt bit rowWhere count table rowOf mapOf emptyMap totalOf seedChecks keyChecks keysReach refusedReach formReach reachTotal below outside outOfRange unset mixed laterThenZ laterThanNow names natural namedOf askedOf tableWrong rowAt suitable rank every orElse firstWhere firstHighest chosenRow rightsTooLow checks grantedAt formFor wantedOf withoutRow withRow granting unlessRefused decision answerNumber answerAt answerForm
+unfolding clock id rows asking reply shownOf cases startOf startNumber startShown numberOf firstOf leOf leBytes beOf beBytes partOf leAt beAt indexAbove31 gkidAt rootAt rootBytes sameRoot keysAllowed l1KeyAllowed l2KeyAllowed keysOf seedForm ofGroup l1Reaches l2Reaches reaches bitAt bit rowWhere count table rowOf mapOf emptyMap totalOf seedChecks keyChecks keysReach refusedReach formReach reachTotal below outside outOfRange unset mixed laterThenZ laterThanNow names natural namedOf indexChecks narrowedOf tableWrong rowAt suitable rank every orElse firstWhere firstHighest chosenRow rightsTooLow checks grantedAt formFor wantedOf withoutRow withRow granting unlessRefused decision answerNumber answerAt answerForm
 t-cases = refl
 
 -- An accepted answer of each kind of request: root given or not, and all -1 or named, which takes seed rights; and CREATE. So nothing that
@@ -129,7 +130,7 @@ kinds =
     ∷ []
 
 pub each-kind-accepted : map (λ k. kindOf (k .0 .0) (k .0 .1 .0) (k .0 .1 .1)) kinds ≡ map (λ k. k .1) kinds
-unfolding clock id rows asking latest kinds kindOf given numberOf firstOf leOf leBytes beOf beBytes partOf leAt beAt gkidAt rootAt rootBytes sameRoot below outside outOfRange unset mixed laterThenZ laterThanNow names natural namedOf askedOf tableWrong rowAt suitable rank every orElse firstWhere firstHighest chosenRow rightsTooLow checks grantedAt wantedOf withoutRow withRow granting unlessRefused decision answerNumber answerCreates
+unfolding clock id rows asking latest kinds kindOf given numberOf firstOf leOf leBytes beOf beBytes partOf leAt beAt gkidAt rootAt rootBytes sameRoot below outside outOfRange unset mixed laterThenZ laterThanNow names natural namedOf indexChecks narrowedOf tableWrong rowAt suitable rank every orElse firstWhere firstHighest chosenRow rightsTooLow checks grantedAt wantedOf withoutRow withRow granting unlessRefused decision answerNumber answerCreates
 each-kind-accepted = refl
 
 numberFirst : List Kind → ℕ

@@ -5,6 +5,7 @@ ghost use Prim.Native.Nat.{_<_, _^_};
 ghost use Rattle.refusal.specs.Chain.{firstOf};
 ghost use Rattle.gkid.specs.Identifier.{InGroup};
 ghost use Rattle.gkid.specs.Start.{startTime};
+ghost use Rattle.request.specs.declared.Narrowing.the-variants.{Asks};
 ghost use Rattle.getkey.specs.Deciding.{rightsTooLow, checks, grantedAt, formFor, wantedOf, withoutRow, granting, decision, Starts};
 use gkid::FileTime;
 use gkid::Gkid;
@@ -16,6 +17,7 @@ use keys::seed_form;
 use refusal::Outcome;
 use refusal::Refusal;
 use request::Asked;
+use request::Narrowing;
 use request::Request;
 use request::Root;
 use roottable::Found;
@@ -50,10 +52,13 @@ pub fn decide(
     let present = Gkid::at(clock);
     match judge(verdict, rights, request, present, table.len()) {
         Outcome::Refused(refusal) => Answer::Refused(refusal),
-        Outcome::Accepted => {
-            let root = request.root;
-            grant(rights, root, request.narrowed(), present, table)
-        }
+        Outcome::Accepted => match request.narrowed() {
+            Narrowing::Refused(refusal) => Answer::Refused(refusal),
+            Narrowing::Asks(asked) => {
+                let root = request.root;
+                grant(rights, root, asked, present, table)
+            }
+        },
     }
 }
 
@@ -82,10 +87,10 @@ fn judge(verdict: bool, rights: Rights, request: Request, present: Gkid, len: us
     Outcome::Accepted
 }
 
-// What is granted once every check but 19 is passed.
+// What is asked for, if a row is found.
 fn grant(rights: Rights, root: Root, asked: Asked, present: Gkid, table: &[u8]) -> Answer
     requires { ⌜ Starts asked ⌝ }
-    ensures { λ r. ⌜ r ≡ granting rights root asked present (now (table .entry)) ⌝ }
+    ensures { λ r. ⌜ r ≡ granting rights root (Asks asked) present (now (table .entry)) ⌝ }
 {
     let at = granted_at(asked, root, present);
     let form = rights.form(at);
