@@ -38,6 +38,7 @@ with-row : (f : Found) (root : Root) (asked : Asked) (at at′ : Gkid) (form for
     → NoWorse (withRow f root asked at form) (withRow f root asked at′ form′)
 unfolding withRow withoutRow answerNumber answerRow answerCreates answerAt
 with-row (found.Row k) root asked at at′ form form′ l e = record { accepted = refl; row = refl; create = refl; notEarlier = l }
+with-row (found.Refused r) root asked at at′ form form′ l e = absurd (number-not-zero r e)
 with-row found.None root.None Latest at at′ form form′ l e = record { accepted = refl; row = refl; create = refl; notEarlier = l }
 with-row found.None root.None (Named i) at at′ form form′ l e = absurd (number-not-zero NoRootKey e)
 with-row found.None (root.Given id) asked at at′ form form′ l e = absurd (number-not-zero NoRootKey e)
@@ -47,6 +48,7 @@ shows : (f : Found) (root : Root) (asked : Asked) (at : Gkid) (form : Form) → 
     → (answerAt (withRow f root asked at form) ≡ at) × (answerForm (withRow f root asked at form) ≡ form)
 unfolding withRow withoutRow answerNumber answerAt answerForm
 shows (found.Row k) root asked at form e = (refl, refl)
+shows (found.Refused r) root asked at form e = absurd (number-not-zero r e)
 shows found.None root.None Latest at form e = (refl, refl)
 shows found.None root.None (Named i) at form e = absurd (number-not-zero NoRootKey e)
 shows found.None (root.Given id) asked at form e = absurd (number-not-zero NoRootKey e)
@@ -92,7 +94,7 @@ module _ (verdict : Bool) (q : Request) (table : List ℕ) where
       let first = accepted-decided verdict r q t table e in
       let p = first .checked in
       let w = waited t t′ h (asks q (p .ranged) (p .unmixed)) (p .not-later) in
-      let second = passed-decided verdict r′ q t′ table (record { verdict-yes = p .verdict-yes; ranged = p .ranged; unmixed = p .unmixed; not-later = w .0; allowed = no-lower r r′ (names q) higher (p .allowed); table = p .table }) in
+      let second = passed-decided verdict r′ q t′ table (record { verdict-yes = p .verdict-yes; ranged = p .ranged; unmixed = p .unmixed; not-later = w .0; allowed = no-lower r r′ (names q) higher (p .allowed) }) in
       rw (first .is, second .is) (with-row _ (q .root) (askedOf q) (at-reading t) (at-reading t′) _ _ (w .1) (rw (first .is) at e))
 
   -- an accepted answer to a request that names an identifier: of its L0 group, not before it, and in the seed form

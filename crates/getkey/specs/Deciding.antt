@@ -76,9 +76,11 @@ withoutRow root.None Latest at form = Create at form
 withoutRow root.None (Named i) at form = Refused NoRootKey
 withoutRow (root.Given id) asked at form = Refused NoRootKey
 
+-- what comes of the search for a row; 20 as it stands
 unfoldable pub withRow : Found → Root → Asked → Gkid → Form → Answer
 withRow (found.Row k) root asked at form = Granted at form k
 withRow found.None root asked at form = withoutRow root asked at form
+withRow (found.Refused r) root asked at form = Refused r
 
 -- what the indices ask for, if a row is found; 14 and 15 as they stand
 unfoldable pub granting : Rights → Root → Narrowing → Gkid → List ℕ → Answer

@@ -1,7 +1,8 @@
 // Document 01, "The GetKey decision" (MS-GKDI 3.1.4.1): from a descriptor's verdict, rights, a request, a clock reading and the root
 // table to the identifier granted, the form and the root row, or the refusal.
 ghost use mathlib.Core.Path.{_≡_};
-ghost use Prim.Native.Nat.{_<_, _^_};
+ghost use Prim.Native.Nat.{ℕ, _<_, _^_};
+ghost use lib.ListN.{take};
 ghost use Rattle.refusal.specs.Chain.{firstOf};
 ghost use Rattle.gkid.specs.Identifier.{InGroup};
 ghost use Rattle.gkid.specs.Start.{startTime};
@@ -23,7 +24,6 @@ use request::Root;
 use roottable::Found;
 use roottable::Wanted;
 use roottable::choose;
-use roottable::is_table_wrong;
 
 // What the caller may be given: nothing, public keys, or seed keys.
 pub enum Rights {
@@ -50,7 +50,7 @@ pub fn decide(
     ensures { λ r. ⌜ r ≡ decision verdict rights request clock (now (table .entry)) ⌝ }
 {
     let present = Gkid::at(clock);
-    match judge(verdict, rights, request, present, table.len()) {
+    match judge(verdict, rights, request, present) {
         Outcome::Refused(refusal) => Answer::Refused(refusal),
         Outcome::Accepted => match request.narrowed() {
             Narrowing::Refused(refusal) => Answer::Refused(refusal),
@@ -62,9 +62,9 @@ pub fn decide(
     }
 }
 
-// 16, 14, 15, 17, 18, 20.
-fn judge(verdict: bool, rights: Rights, request: Request, present: Gkid, len: usize) -> Outcome
-    ensures { λ r. ⌜ r ≡ firstOf (checks verdict rights request present len) ⌝ }
+// 16, 14, 15, 17, 18: the checks but for the last, 20, which `choose` answers.
+fn judge(verdict: bool, rights: Rights, request: Request, present: Gkid) -> Outcome
+    ensures { λ r. ⌜ ((len : ℕ) → r ≡ firstOf (take 5 (checks verdict rights request present len))) ⌝ }
 {
     if !verdict {
         return Outcome::Refused(Refusal::VerdictNo);
@@ -81,13 +81,10 @@ fn judge(verdict: bool, rights: Rights, request: Request, present: Gkid, len: us
     if rights.are_too_low(request.names_one()) {
         return Outcome::Refused(Refusal::RightsTooLow);
     }
-    if is_table_wrong(len) {
-        return Outcome::Refused(Refusal::TableLength);
-    }
     Outcome::Accepted
 }
 
-// What is asked for, if a row is found.
+// What is asked for, if a row is found: 20, 19.
 fn grant(rights: Rights, root: Root, asked: Asked, present: Gkid, table: &[u8]) -> Answer
     requires { ⌜ Starts asked ⌝ }
     ensures { λ r. ⌜ r ≡ granting rights root (Asks asked) present (now (table .entry)) ⌝ }
@@ -97,6 +94,7 @@ fn grant(rights: Rights, root: Root, asked: Asked, present: Gkid, table: &[u8]) 
     match choose(row_wanted(root, asked), table) {
         Found::Row(row) => Answer::Granted { at, form, row },
         Found::None => without_row(root, asked, at, form),
+        Found::Refused(refusal) => Answer::Refused(refusal),
     }
 }
 

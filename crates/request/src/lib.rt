@@ -108,7 +108,7 @@ fn is_below(index: i32) -> bool
 fn is_outside(index: i32) -> bool
     ensures { λ r. ⌜ r ≡ outside index ⌝ }
 {
-    is_below(index) || index > 31
+    is_below(index) | (index > 31)
 }
 
 // 0 or above.
@@ -136,27 +136,21 @@ fn narrow(index: i32) -> u32
 fn any(a: bool, b: bool, c: bool) -> bool
     ensures { λ r. ⌜ r ≡ a || (b || c) ⌝ }
 {
-    if a {
-        return true;
-    }
-    b || c
+    a | (b | c)
 }
 
 // All three hold.
 fn all(a: bool, b: bool, c: bool) -> bool
     ensures { λ r. ⌜ r ≡ a && (b && c) ⌝ }
 {
-    if a {
-        return b && c;
-    }
-    false
+    a & (b & c)
 }
 
 // Some of three hold, and not all.
 fn mix(a: bool, b: bool, c: bool) -> bool
     ensures { λ r. ⌜ r ≡ (a || (b || c)) && not (a && (b && c)) ⌝ }
 {
-    any(a, b, c) && !all(a, b, c)
+    (a != b) | (b != c)
 }
 
 // Signed: the later is told by an index or, where that is the same, by the next one.

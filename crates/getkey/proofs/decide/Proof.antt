@@ -1,8 +1,7 @@
 -- `decide`: the refusal of the checks, or what is granted.
-use Rattle.lemmas.proofs.Basics.{_^_, _<_, arith, sym, _∙_, needs}
-use Rattle.refusal.specs.Chain.{unlessRefused}
-use Rattle.getkey.specs.Deciding.{granting, decision}
-use Rattle.getkey.proofs.Decisions.{passed, Begins, begins}
+use Rattle.lemmas.proofs.Basics.{_^_, _<_, arith, sym, _∙_, length, needs}
+use Rattle.getkey.specs.Deciding.{granting}
+use Rattle.getkey.proofs.Decisions.{passed, Begins, begins, refused-decided, passed-granting}
 use Rattle.getkey.proofs.decide.Statement.{statement}
 use Rattle.getkey.proofs.decide.Tie as tie
 
@@ -13,25 +12,31 @@ grant-requires c κs =
     let start = j .before .before .before in
     let a = start .args in
     let clock : a .clock .0 < 2 ^ 64 = omega (arith, start .good .1 .1 .1 .0) in
-    let p = passed (a .verdict) (a .rights) (a .request) _ _ (sym (j .judge .ensures) ∙ n .before .enum-told .given .1) in
-    let later = rw (j .before .at .ensures) at (p .not-later) in
-    rw (← n .narrowed .ensures .0, c .before .asked .given .1) at (begins (a .request) (a .clock) clock (p .ranged) (p .unmixed) later)
+    let p = rw (j .before .at .ensures) at (passed (a .verdict) (a .rights) (a .request) _ 0 (sym (j .judge .ensures 0) ∙ n .before .enum-told .given .1)) in
+    rw (← n .narrowed .ensures .0, c .before .asked .given .1) at (begins (a .request) (a .clock) clock p)
 
 returns : tie.Need-returns
-unfolding decision unlessRefused
-returns c = rw (← c .before .before .before .before .at .ensures, ← c .before .before .before .judge .ensures, c .before .refusal .given .1)
+returns c =
+    let j = c .before .before .before in
+    let a = j .before .before .before .args in
+    sym (refused-decided (a .verdict) (a .rights) (a .request) (a .clock) (a .table .now) (rw (j .before .at .ensures) at (sym (j .judge .ensures (length (a .table .now))) ∙ c .before .refusal .given .1)))
 
 returns-2 : tie.Need-returns-2
-unfolding decision granting unlessRefused
-returns-2 c = let n = c .before .before .before in
+unfolding granting
+returns-2 c =
+    let n = c .before .before .before in
     let j = n .before .before .before in
-    rw (← j .before .at .ensures, ← j .judge .ensures, n .before .enum-told .given .1, ← n .narrowed .ensures .0, c .before .refusal2 .given .1)
+    let a = j .before .before .before .args in
+    let p = rw (j .before .at .ensures) at (passed (a .verdict) (a .rights) (a .request) _ 0 (sym (j .judge .ensures 0) ∙ n .before .enum-told .given .1)) in
+    rw (passed-granting (a .verdict) (a .rights) (a .request) (a .clock) (a .table .now) p, ← n .narrowed .ensures .0, c .before .refusal2 .given .1)
 
 returns-3 : tie.Need-returns-3
-unfolding decision unlessRefused
-returns-3 c = let n = c .before .before .before .before in
+returns-3 c =
+    let n = c .before .before .before .before in
     let j = n .before .before .before in
-    rw (← j .before .at .ensures, ← j .judge .ensures, n .before .enum-told .given .1, ← n .narrowed .ensures .0, c .before .before .asked .given .1) (c .grant .ensures)
+    let a = j .before .before .before .args in
+    let p = rw (j .before .at .ensures) at (passed (a .verdict) (a .rights) (a .request) _ 0 (sym (j .judge .ensures 0) ∙ n .before .enum-told .given .1)) in
+    rw (passed-granting (a .verdict) (a .rights) (a .request) (a .clock) (a .table .now) p, ← n .narrowed .ensures .0, c .before .before .asked .given .1, ← j .before .at .ensures) (c .grant .ensures)
 
 pub decide-spec : {M : Type 1} → statement M
 decide-spec = tie.close (tie.spec
