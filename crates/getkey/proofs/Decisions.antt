@@ -3,7 +3,7 @@ use Rattle.lemmas.proofs.Basics.{ℕ, _^_, _<_, Bool, true, false, cond, not, L
 use Rattle.refusal.specs.declared.Outcome.the-variants as outcome
 use Rattle.refusal.specs.declared.Refusal.{Refusal}
 use Rattle.refusal.specs.declared.Refusal.the-variants.{TableLength}
-use Rattle.refusal.specs.Chain.{_⇒_, firstOf, unlessRefused, goesOn}
+use Rattle.refusal.specs.Chain.{_⇒_, firstOf, unlessRefused}
 use Rattle.refusal.proofs.Chains.{accepted-pass, first-append, append-accepted, unless-zero}
 use Rattle.gkid.specs.declared.FileTime.{FileTime}
 use Rattle.gkid.specs.declared.Gkid.{Gkid}
@@ -27,7 +27,7 @@ use Rattle.getkey.specs.Deciding.{rightsTooLow, checks, withRow, grantin
 use Rattle.getkey.specs.Waiting.{Accepted}
 use Rattle.request.proofs.Requests.{askedOf, narrowed-asks, Asks, latest, named, asks}
 
--- what the checks that code makes before it looks at the table say of a request
+-- what the checks before 20 say of a request, once passed
 pub record Passed (verdict : Bool) (rights : Rights) (q : Request) (present : Gkid) : Type 0 where
   pub verdict-yes : not verdict ≡ false
   pub ranged : outOfRange q ≡ false
@@ -38,15 +38,7 @@ pub record Passed (verdict : Bool) (rights : Rights) (q : Request) (present : Gk
 pub passed : (verdict : Bool) (rights : Rights) (q : Request) (present : Gkid) (len : ℕ) → firstOf (take 5 (checks verdict rights q present len)) ≡ outcome.Accepted
     → Passed verdict rights q present
 unfolding checks
-passed verdict rights q present len e =
-    let p = accepted-pass _ e in
-    record { verdict-yes = p .0; ranged = p .1 .0; unmixed = p .1 .1 .0; not-later = p .1 .1 .1 .0; allowed = p .1 .1 .1 .1 .0 }
-
--- 20 is the last check.
-pub table-last : (verdict : Bool) (rights : Rights) (q : Request) (present : Gkid) (len : ℕ)
-    → firstOf (checks verdict rights q present len) ≡ goesOn (firstOf (take 5 (checks verdict rights q present len))) (firstOf ((tableWrong len ⇒ TableLength) ∷ []))
-unfolding checks
-table-last verdict rights q present len = first-append (take 5 (checks verdict rights q present len)) ((tableWrong len ⇒ TableLength) ∷ [])
+passed verdict rights q present len e = let p = accepted-pass _ e in search p
 
 -- 64 bits hold the start of what is named.
 abbrev pub Begins : Narrowing → Type 0
@@ -60,11 +52,11 @@ begins q t h p = rw (narrowed-asks q (p .ranged) (p .unmixed)) (of (asks q (p .r
     of (latest e l) = rw e tt
     of (named e g l) = rw e (g, up-to-now (namedOf q) t h g (sym (l (gkidAt t)) ∙ p .not-later))
 
--- Before the table the checks tell of, code stops at the same refusal.
+-- A refusal of the checks before 20 is the decision's.
 pub refused-decided : (verdict : Bool) (rights : Rights) (q : Request) (t : FileTime) (table : List ℕ) {r : Refusal}
     → firstOf (take 5 (checks verdict rights q (gkidAt t) (length table))) ≡ outcome.Refused r → decision verdict rights q t table ≡ Refused r
-unfolding decision unlessRefused
-refused-decided verdict rights q t table e = rw (table-last verdict rights q (gkidAt t) (length table), e)
+unfolding decision checks unlessRefused
+refused-decided verdict rights q t table e = rw (first-append (take 5 (checks verdict rights q (gkidAt t) (length table))) ((tableWrong (length table) ⇒ TableLength) ∷ []), e)
 
 -- of a wrong table the search for a row answers 20, as the last check does
 table-told : (wrong : Bool) (f : Found) (root : Root) (asked : Asked) (at : Gkid) (form : Form) → let found = withRow (cond wrong (found.Refused TableLength) f) root asked at form in

@@ -1,5 +1,5 @@
 -- `Request::narrowed`: 14, 15; where all three are 0 or above, each narrowed.
-use Rattle.lemmas.proofs.Basics.{_≡_, sym, ap, _∙_, needs}
+use Rattle.lemmas.proofs.Basics.{_≡_, ap, _∙_, needs}
 use mir.Syntax.{w32}
 use mir.Val.{toZ, ofZ}
 use Rattle.refusal.specs.Chain.{firstOf, unlessRefused}
