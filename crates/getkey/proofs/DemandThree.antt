@@ -129,6 +129,7 @@ module _ (verdict : Bool) (q : Request) (table : List ℕ) where
         itself = reached (namedOf q) ∙ rw (is-group (namedOf q) (namedOf q) refl (n .0 .own), n .0 .after);
       }
 
+  -- Demand 3, for any two askings, the second with no lower clock and no lower rights.
   pub waiting-loses-nothing : (first second : Asking) → first .clock .0 ≤ second .clock .0 → NoLower (first .rights) (second .rights) → LosesNothing verdict q table first second
   waiting-loses-nothing first second clock higher =
       let again = asked-again (first .clock) (second .clock) (first .rights) (second .rights) clock higher in

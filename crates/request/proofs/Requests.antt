@@ -16,7 +16,7 @@ use Rattle.request.specs.declared.Asked.the-variants.{Latest, Named}
 use Rattle.request.specs.declared.Narrowing.{Narrowing}
 use Rattle.request.specs.declared.Narrowing.the-variants as narrowing
 use Rattle.request.specs.Indices.{below, outside, outOfRange, unset, mixed, indexChecks, laterThenZ, laterThanNow, names, natural, namedOf}
-use Rattle.request.specs.Narrowed.{narrowedOf, narrowedNumber, narrowedShown, namedOrZeros}
+use Rattle.request.specs.Narrowed.{narrowedOf, narrowedNumber, narrowedNames, narrowedShown, namedOrZeros}
 
 -- what stands behind 14 and 15
 abbrev pub askedOf : Request → Asked
@@ -28,14 +28,14 @@ narrowed-asks q h e = rw (h, e)
 
 -- The number is that of the checks, and where they are accepted, what is named is shown.
 pub narrowed-shows : (q : Request) {r : Narrowing} → r ≡ narrowedOf q
-    → (r ≡ narrowedOf q) × ((narrowedNumber r ≡ outcomeNumber (firstOf (indexChecks q))) × (narrowedNumber r ≡ 0 → narrowedShown r ≡ namedOrZeros q))
-unfolding narrowedOf narrowedNumber narrowedShown namedOrZeros unlessRefused outcomeNumber
+    → (r ≡ narrowedOf q) × ((narrowedNumber r ≡ outcomeNumber (firstOf (indexChecks q))) × (narrowedNumber r ≡ 0 → (narrowedNames r ≡ names q) × (narrowedShown r ≡ namedOrZeros q)))
+unfolding narrowedOf narrowedNumber narrowedNames narrowedShown namedOrZeros unlessRefused outcomeNumber
 narrowed-shows q e = rw e (refl, of (firstOf (indexChecks q)) (names q) (namedOf q))
   where
     of : (o : Outcome) (n : Bool) (i : Gkid) → let r = unlessRefused narrowing.Refused o (narrowing.Asks (cond n (Named i) Latest)) in
-        (narrowedNumber r ≡ outcomeNumber o) × (narrowedNumber r ≡ 0 → narrowedShown r ≡ cond n i (gkid 0 0 0))
-    of outcome.Accepted true i = (refl, λ _. refl)
-    of outcome.Accepted false i = (refl, λ _. refl)
+        (narrowedNumber r ≡ outcomeNumber o) × (narrowedNumber r ≡ 0 → (narrowedNames r ≡ n) × (narrowedShown r ≡ cond n i (gkid 0 0 0)))
+    of outcome.Accepted true i = (refl, λ _. (refl, refl))
+    of outcome.Accepted false i = (refl, λ _. (refl, refl))
     of (outcome.Refused r) n i = (refl, λ z. absurd (number-not-zero r z))
 
 -- Either no index names anything, and the request is never later than now; or all do, and it is later where the named one is.

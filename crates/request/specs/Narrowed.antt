@@ -1,6 +1,6 @@
 -- Document 01, "The GetKey decision": what the three indices of a request ask for, once narrowed.
 use Prim.Native.Nat.{ℕ}
-use mathlib.Core.Bool.{cond}
+use mathlib.Core.Bool.{Bool, true, false, cond}
 use Rattle.refusal.specs.Chain.{firstOf, unlessRefused}
 use Rattle.refusal.specs.Number.{numberOf}
 use Rattle.gkid.specs.declared.Gkid.{Gkid}
@@ -15,10 +15,16 @@ use Rattle.request.specs.Indices.{indexChecks, names, namedOf}
 unfoldable pub narrowedOf : Request → Narrowing
 narrowedOf q = unlessRefused Refused (firstOf (indexChecks q)) (Asks (cond (names q) (Named (namedOf q)) Latest))
 
--- document 01's number and values: 0 and the named one, with zeros where none is named; or the refusal's number and zeros
+-- document 01's number, whether an identifier is named, and that one: zeros where the latest is asked for; or the refusal's number and
+-- zeros
 unfoldable pub narrowedNumber : Narrowing → ℕ
 narrowedNumber (Asks asked) = 0
 narrowedNumber (Refused r) = numberOf r
+
+unfoldable pub narrowedNames : Narrowing → Bool
+narrowedNames (Asks (Named i)) = true
+narrowedNames (Asks Latest) = false
+narrowedNames (Refused r) = false
 
 unfoldable pub narrowedShown : Narrowing → Gkid
 narrowedShown (Asks (Named i)) = i

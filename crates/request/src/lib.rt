@@ -5,7 +5,7 @@ ghost use lib.Signed.{nonNeg};
 ghost use Rattle.refusal.specs.Chain.{firstOf};
 ghost use Rattle.refusal.specs.Number.{outcomeNumber};
 ghost use Rattle.request.specs.Indices.{below, outside, unset, natural, outOfRange, mixed, indexChecks, names, laterThenZ, laterThanNow};
-ghost use Rattle.request.specs.Narrowed.{narrowedOf, narrowedNumber, narrowedShown, namedOrZeros};
+ghost use Rattle.request.specs.Narrowed.{narrowedOf, narrowedNumber, narrowedNames, narrowedShown, namedOrZeros};
 use gkid::Gkid;
 use gkid::L0;
 use gkid::L1;
@@ -78,7 +78,7 @@ impl Request {
     pub fn narrowed(self) -> Narrowing
         ensures answer { λ r. ⌜ r ≡ narrowedOf self ⌝ }
         ensures number { λ r. ⌜ narrowedNumber r ≡ outcomeNumber (firstOf (indexChecks self)) ⌝ }
-        ensures shown { λ r. ⌜ (narrowedNumber r ≡ 0 → narrowedShown r ≡ namedOrZeros self) ⌝ }
+        ensures shown { λ r. ⌜ (narrowedNumber r ≡ 0 → (narrowedNames r ≡ names self) × (narrowedShown r ≡ namedOrZeros self)) ⌝ }
     {
         if self.out_of_range() {
             return Narrowing::Refused(Refusal::IndexOutOfRange);
