@@ -8,7 +8,8 @@
  * What the caller owes: a pointer and its length name bytes that may be read for the length of the call (written, for `out`),
  * no other thread changes them meanwhile, and `out` shares no byte with what is handed in beside it. A length of 0 goes with any pointer, NULL too.
  *
- * Codes: 0 is none, refused or the weakest; real cases count from 1. A code handed in that is not listed is the weakest one. */
+ * Codes: 0 is none, refused or the weakest; real cases count from 1. A code handed in that is not listed is the weakest one,
+ * but for root_given: every value but 0 names a root key. */
 #ifndef GISHWAREM_H
 #define GISHWAREM_H
 
@@ -80,7 +81,7 @@ extern "C" {
 
 /* The root key of a request. */
 #define GW_ROOT_NONE 0u  /* none is named */
-#define GW_ROOT_GIVEN 1u /* the one in `root` */
+#define GW_ROOT_GIVEN 1u /* the one in `root`, as by every value but 0 */
 
 /* What a decision grants. */
 #define GW_GRANTED_ROW 1u    /* a key under the root key in `row` */
@@ -211,7 +212,7 @@ typedef struct gw_start_answer {
 
 /* A request for a group key. */
 typedef struct gw_request {
-    uint32_t root_given; /* GW_ROOT_.. */
+    uint32_t root_given; /* GW_ROOT_..: 0, or any other value for the one in `root` */
     int32_t l0;          /* L0 index, or -1 in all three for the latest */
     int32_t l1;          /* L1 index */
     int32_t l2;          /* L2 index */

@@ -20,9 +20,9 @@ use Rattle.face_decisions.specs.declared.DecisionAnswer.{DecisionAnswer}
 abbrev pub rightsFrom : ℕ → Rights
 rightsFrom code = cond (eqb code 1) rights.Public (cond (eqb code 2) rights.Seed rights.None)
 
--- a code that is not 1 names no root key
+-- 0 names no root key; every other value names one, as C has it
 abbrev pub rootFrom : ℕ → RootBytes → Root
-rootFrom given id = cond (eqb given 1) (root.Given (rootIdFrom id)) root.None
+rootFrom given id = cond (eqb given 0) root.None (root.Given (rootIdFrom id))
 
 abbrev pub requestFrom : RequestIndices → Request
 requestFrom q = record { root = rootFrom (q .«root_given») (q .root); l0 = q .l0; l1 = q .l1; l2 = q .l2 }

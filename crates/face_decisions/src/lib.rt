@@ -11,7 +11,7 @@ use getkey::Rights;
 use request::Request;
 use request::Root;
 
-// A request: root_given is 1 where a root key is named; -1 in the three indices asks for the latest.
+// A request: root_given is 0 where no root key is named; -1 in the three indices asks for the latest.
 #[repr(C)]
 pub struct RequestIndices {
     pub root_given: u32,
@@ -54,14 +54,14 @@ pub fn request_from(asked: RequestIndices) -> Request
     }
 }
 
-// A code that is not 1 names no root key.
+// 0 names no root key; every other value names one, as C has it.
 fn root_from(given: u32, id: RootBytes) -> Root
     ensures { λ r. ⌜ r ≡ rootFrom given id ⌝ }
 {
-    if given == 1 {
-        return Root::Given(to_root(id));
+    if given == 0 {
+        return Root::None;
     }
-    Root::None
+    Root::Given(to_root(id))
 }
 
 pub fn decision_answer(answer: Answer) -> DecisionAnswer

@@ -1,6 +1,6 @@
--- Demand 3, waiting loses nothing. One descriptor verdict, one request and one root table are put to the decision twice, the second time
--- with a clock reading no lower and with rights no lower. Nothing else is assumed.
-use Rattle.lemmas.proofs.Basics.{ℕ, _≤_, arith, Bool, true, false, true≢false, List, _≡_, refl, sym, _∙_, not-true}
+-- Demand 3, waiting loses nothing, by one theorem. One descriptor verdict, one request and one root table are put to the decision twice, the
+-- second time with a clock reading no lower and with rights no lower. Nothing else is assumed.
+use Rattle.lemmas.proofs.Basics.{ℕ, _≤_, arith, Bool, true, false, true≢false, not, _&&_, List, _≡_, refl, sym, _∙_, not-true}
 use Rattle.refusal.specs.declared.Refusal.the-variants.{NoRootKey}
 use Rattle.refusal.specs.Number.{outcomeNumber}
 use Rattle.lemmas.proofs.Cases.{both-true}
@@ -15,7 +15,7 @@ use Rattle.keys.specs.declared.Form.{Form}
 use Rattle.keys.specs.Forms.{seedForm}
 use Rattle.reach.specs.Reached.{ofGroup}
 use Rattle.reach.specs.Reaches.{keysReach, reachNumber}
-use Rattle.reach.proofs.ReachLaws.{group-is, is-group}
+use Rattle.reach.proofs.ReachLaws.{is-group}
 use Rattle.reach.proofs.SeedLaws.{seed-accepted, seed-bits, seed-total}
 use Rattle.getkey.specs.declared.Rights.{Rights}
 use Rattle.getkey.specs.declared.Rights.the-variants as rights
@@ -26,10 +26,10 @@ use Rattle.request.specs.declared.Asked.{Asked}
 use Rattle.request.specs.declared.Asked.the-variants.{Latest, Named}
 use Rattle.roottable.specs.declared.Found.{Found}
 use Rattle.roottable.specs.declared.Found.the-variants as found
-use Rattle.request.specs.Indices.{laterThanNow, names, namedOf, askedOf}
+use Rattle.request.specs.Indices.{laterThanNow, names, namedOf}
 use Rattle.getkey.specs.Deciding.{rightsTooLow, grantedAt, formFor, withoutRow, withRow, granting, decision, answerNumber, answerAt, answerForm, answerRow, answerCreates}
-use Rattle.getkey.specs.Waiting.{height, NoLower, Accepted, NoWorse, reachedBy, ReachesUpTo}
-use Rattle.request.proofs.Requests.{Asks, latest, named, asks}
+use Rattle.getkey.specs.Waiting.{height, NoLower, Asking, Accepted, NoWorse, reachedBy, ReachesUpTo, answerTo, LosesNothing}
+use Rattle.request.proofs.Requests.{askedOf, Asks, latest, named, asks}
 use Rattle.getkey.proofs.Decisions.{passed-decided, accepted-decided}
 use Rattle.getkey.proofs.Granted.{Group, granted-group, granted-later}
 
@@ -38,6 +38,7 @@ with-row : (f : Found) (root : Root) (asked : Asked) (at at′ : Gkid) (form for
     → NoWorse (withRow f root asked at form) (withRow f root asked at′ form′)
 unfolding withRow withoutRow answerNumber answerRow answerCreates answerAt
 with-row (found.Row k) root asked at at′ form form′ l e = record { accepted = refl; row = refl; create = refl; notEarlier = l }
+with-row (found.Refused r) root asked at at′ form form′ l e = absurd (number-not-zero r e)
 with-row found.None root.None Latest at at′ form form′ l e = record { accepted = refl; row = refl; create = refl; notEarlier = l }
 with-row found.None root.None (Named i) at at′ form form′ l e = absurd (number-not-zero NoRootKey e)
 with-row found.None (root.Given id) asked at at′ form form′ l e = absurd (number-not-zero NoRootKey e)
@@ -47,6 +48,7 @@ shows : (f : Found) (root : Root) (asked : Asked) (at : Gkid) (form : Form) → 
     → (answerAt (withRow f root asked at form) ≡ at) × (answerForm (withRow f root asked at form) ≡ form)
 unfolding withRow withoutRow answerNumber answerAt answerForm
 shows (found.Row k) root asked at form e = (refl, refl)
+shows (found.Refused r) root asked at form e = absurd (number-not-zero r e)
 shows found.None root.None Latest at form e = (refl, refl)
 shows found.None root.None (Named i) at form e = absurd (number-not-zero NoRootKey e)
 shows found.None (root.Given id) asked at form e = absurd (number-not-zero NoRootKey e)
@@ -73,32 +75,32 @@ module _ (verdict : Bool) (q : Request) (table : List ℕ) where
   at-reading : FileTime → Gkid
   at-reading t = grantedAt (askedOf q) (q .root) (gkidAt t)
 
-  module _ (t t′ : FileTime) (h : t .0 ≤ t′ .0) where
-    -- not later than now at the first reading: nor at the second, and no earlier identifier is granted there
-    waited : Asks q → laterThanNow q (gkidAt t) ≡ false → (laterThanNow q (gkidAt t′) ≡ false) × (later (at-reading t) (at-reading t′) ≡ false)
-    unfolding askedOf grantedAt at-reading
-    waited (latest e l) not-later = (l (gkidAt t′), rw e (reading-monotone t t′ h))
-    waited (named e g l) not-later =
-        let up-to = sym (l (gkidAt t)) ∙ not-later in
-        let clock = reading-monotone t t′ h in (
-          l (gkidAt t′) ∙ later-transitive (namedOf q) (gkidAt t) (gkidAt t′) up-to clock,
-          rw e (granted-later (q .root) (namedOf q) (gkidAt t) (gkidAt t′) g (reading-in-group t) (reading-in-group t′) up-to clock),
-        )
+  -- not later than now at the first reading: nor at the second, and no earlier identifier is granted there
+  waited : (t t′ : FileTime) → t .0 ≤ t′ .0 → Asks q → laterThanNow q (gkidAt t) ≡ false
+      → (laterThanNow q (gkidAt t′) ≡ false) × (later (at-reading t) (at-reading t′) ≡ false)
+  unfolding grantedAt at-reading
+  waited t t′ h (latest e l) not-later = (l (gkidAt t′), rw e (reading-monotone t t′ h))
+  waited t t′ h (named e g l) not-later =
+      let up-to = sym (l (gkidAt t)) ∙ not-later in
+      let clock = reading-monotone t t′ h in (
+        l (gkidAt t′) ∙ later-transitive (namedOf q) (gkidAt t) (gkidAt t′) up-to clock,
+        rw e (granted-later (q .root) (namedOf q) (gkidAt t) (gkidAt t′) g (reading-in-group t) (reading-in-group t′) up-to clock),
+      )
 
-    -- "If the first is accepted, so is the second, with the same root row or the same CREATE, and an identifier not earlier."
-    pub asked-again : (r r′ : Rights) → NoLower r r′ → Accepted (decision verdict r q t table) → NoWorse (decision verdict r q t table) (decision verdict r′ q t′ table)
-    unfolding granting at-reading
-    asked-again r r′ higher e =
-        let first = accepted-decided verdict r q t table e in
-        let p = first .checked in
-        let w = waited (asks q (p .ranged) (p .unmixed)) (p .not-later) in
-        let second = passed-decided verdict r′ q t′ table (record { verdict-yes = p .verdict-yes; ranged = p .ranged; unmixed = p .unmixed; not-later = w .0; allowed = no-lower r r′ (names q) higher (p .allowed); table = p .table }) in
-        rw (first .is, second .is) (with-row _ (q .root) (askedOf q) (at-reading t) (at-reading t′) _ _ (w .1) (rw (first .is) at e))
+  asked-again : (t t′ : FileTime) (r r′ : Rights) → t .0 ≤ t′ .0 → NoLower r r′ → Accepted (decision verdict r q t table)
+      → NoWorse (decision verdict r q t table) (decision verdict r′ q t′ table)
+  unfolding granting at-reading
+  asked-again t t′ r r′ h higher e =
+      let first = accepted-decided verdict r q t table e in
+      let p = first .checked in
+      let w = waited t t′ h (asks q (p .ranged) (p .unmixed)) (p .not-later) in
+      let second = passed-decided verdict r′ q t′ table (record { verdict-yes = p .verdict-yes; ranged = p .ranged; unmixed = p .unmixed; not-later = w .0; allowed = no-lower r r′ (names q) higher (p .allowed) }) in
+      rw (first .is, second .is) (with-row _ (q .root) (askedOf q) (at-reading t) (at-reading t′) _ _ (w .1) (rw (first .is) at e))
 
   -- an accepted answer to a request that names an identifier: of its L0 group, not before it, and in the seed form
   named-answer : (r : Rights) (t : FileTime) → names q ≡ true → Accepted (decision verdict r q t table)
       → Group (namedOf q) (answerAt (decision verdict r q t table)) × (answerForm (decision verdict r q t table) ≡ seedForm (answerAt (decision verdict r q t table)))
-  unfolding granting askedOf
+  unfolding granting
   named-answer r t one e =
       let d = accepted-decided verdict r q t table e in
       let p = d .checked in
@@ -112,33 +114,29 @@ module _ (verdict : Bool) (q : Request) (table : List ℕ) where
       of (latest none l) not-later = absurd (true≢false (sym one ∙ none))
       of (named _ g l) not-later = granted-group (q .root) (namedOf q) (gkidAt t) g (reading-in-group t) (sym (l (gkidAt t)) ∙ not-later)
 
-  -- "Whenever a request that names an identifier is accepted, the granted form reaches exactly the identifiers of that L0 group up to the
-  -- granted one, total 32·L1 + L2 + 1."
-  pub reaches-up-to : (r : Rights) (t : FileTime) → names q ≡ true → Accepted (decision verdict r q t table) → ReachesUpTo (decision verdict r q t table)
-  unfolding reachedBy keysReach reachNumber outcomeNumber
-  reaches-up-to r t one e =
-      let a = named-answer r t one e in
-      let at = answerAt (decision verdict r q t table) in
-      let g = a .0 .within in
-      record { accepted = rw (a .1, seed-accepted at g); reached = λ i. rw (a .1) (seed-bits at i g); total = rw (a .1) (seed-total at g) }
+  reaches-up-to : (a : Asking) → names q ≡ true → Accepted (answerTo verdict q table a) → ReachesUpTo (namedOf q) (answerTo verdict q table a)
+  unfolding reachedBy keysReach reachNumber outcomeNumber ofGroup
+  reaches-up-to a one e =
+      let n = named-answer (a .rights) (a .clock) one e in
+      let at = answerAt (answerTo verdict q table a) in
+      let g = n .0 .within in
+      let reached : (i : Gkid) → reachedBy (answerTo verdict q table a) i ≡ ofGroup (namedOf q) i && not (later i at) = λ i. rw (n .1, ← n .0 .same) (seed-bits at i g) in
+      record {
+        group = n .0 .same;
+        accepted = rw (n .1, seed-accepted at g);
+        reached = reached;
+        total = rw (n .1) (seed-total at g);
+        itself = reached (namedOf q) ∙ rw (is-group (namedOf q) (namedOf q) refl (n .0 .own), n .0 .after);
+      }
 
-  -- "So the named one is reached,
-  pub named-reached : (r : Rights) (t : FileTime) → names q ≡ true → Accepted (decision verdict r q t table) → reachedBy (decision verdict r q t table) (namedOf q) ≡ true
-  named-reached r t one e =
-      let a = named-answer r t one e .0 in
-      let at = answerAt (decision verdict r q t table) in
-      reaches-up-to r t one e .reached (namedOf q) ∙ rw (is-group at (namedOf q) (sym (a .same)) (a .own), a .after)
-
-  -- and what the first form reaches, the second reaches too."
-  pub still-reached : (t t′ : FileTime) → t .0 ≤ t′ .0 → (r r′ : Rights) → NoLower r r′ → names q ≡ true → Accepted (decision verdict r q t table)
-      → (i : Gkid) → reachedBy (decision verdict r q t table) i ≡ true → reachedBy (decision verdict r′ q t′ table) i ≡ true
-  still-reached t t′ h r r′ higher one e i reached =
-      let again = asked-again t t′ h r r′ higher e in
-      let a = named-answer r t one e .0 in
-      let b = named-answer r′ t′ one (again .accepted) .0 in
-      let at = answerAt (decision verdict r q t table) in
-      let at′ = answerAt (decision verdict r′ q t′ table) in
-      let was = both-true (ofGroup at i) _ (sym (reaches-up-to r t one e .reached i) ∙ reached) in
-      let of = group-is at i (was .0) in
-      reaches-up-to r′ t′ one (again .accepted) .reached i
-      ∙ rw (is-group at′ i (of .0 ∙ a .same ∙ sym (b .same)) (of .1), later-transitive i at at′ (not-true _ (was .1)) (again .notEarlier))
+  -- Demand 3, for any two askings, the second with no lower clock and no lower rights.
+  pub waiting-loses-nothing : (first second : Asking) → first .clock .0 ≤ second .clock .0 → NoLower (first .rights) (second .rights) → LosesNothing verdict q table first second
+  waiting-loses-nothing first second clock higher =
+      let again = asked-again (first .clock) (second .clock) (first .rights) (second .rights) clock higher in
+      record {
+        again = again;
+        whenever = reaches-up-to;
+        still = λ one e i reached.
+            let was = both-true (ofGroup (namedOf q) i) _ (sym (reaches-up-to first one e .reached i) ∙ reached) in
+            reaches-up-to second one (again e .accepted) .reached i ∙ rw (was .0, later-transitive i _ _ (not-true _ (was .1)) (again e .notEarlier));
+      }

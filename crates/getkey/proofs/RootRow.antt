@@ -18,7 +18,7 @@ use Rattle.roottable.specs.declared.Found.{Found}
 use Rattle.roottable.specs.declared.Found.the-variants as found
 use Rattle.getkey.specs.declared.Answer.{Answer}
 use Rattle.getkey.specs.declared.Answer.the-variants.{Granted, Create, Refused}
-use Rattle.request.specs.Indices.{askedOf}
+use Rattle.request.proofs.Requests.{askedOf}
 use Rattle.roottable.specs.Rows.{rowSize, rowCount, suitable, tableWrong}
 use Rattle.roottable.specs.Selection.{chosenRow}
 use Rattle.getkey.specs.Deciding.{wantedOf, withoutRow, withRow, granting, decision}
@@ -42,14 +42,15 @@ with-row : (f : Found) (root : Root) (asked : Asked) (table : List ℕ) (at : Gk
     → Says (rowCount table) (suits (wantedOf root asked) table) (ranks (wantedOf root asked) table) f → RowSays root asked table (withRow f root asked at form)
 unfolding withRow withoutRow
 with-row (found.Row k) root asked table at form e s = s
+with-row (found.Refused r) root asked table at form e s = absurd s
 with-row found.None root.None Latest table at form e s = (refl, (refl, no-row table e s))
 with-row found.None root.None (Named i) table at form e s = (refl, s)
 with-row found.None (root.Given id) asked table at form e s = (refl, s)
 
 -- Granted: the row is suitable, no suitable one is higher, none before it as high. Refused: none is suitable.
-pub row-says : (verdict : Bool) (rights : Rights) (q : Request) (t : FileTime) (table : List ℕ) → Passed verdict rights q (gkidAt t) (length table)
+pub row-says : (verdict : Bool) (rights : Rights) (q : Request) (t : FileTime) (table : List ℕ) → Passed verdict rights q (gkidAt t) → tableWrong (length table) ≡ false
     → RowSays (q .root) (askedOf q) table (decision verdict rights q t table)
 unfolding granting
-row-says verdict rights q t table p =
+row-says verdict rights q t table p whole =
     rw (passed-decided verdict rights q t table p .is)
-    (with-row (chosenRow (wantedOf (q .root) (askedOf q)) table) (q .root) (askedOf q) table _ _ (p .table) (chosen-row (wantedOf (q .root) (askedOf q)) table))
+    (with-row (chosenRow (wantedOf (q .root) (askedOf q)) table) (q .root) (askedOf q) table _ _ whole (chosen-row (wantedOf (q .root) (askedOf q)) table whole))

@@ -1,6 +1,6 @@
--- Document 01, "Bench cases": the T cases on times, start times and the decision, in one table; and an accepted answer of each kind of
--- request.
-use Rattle.lemmas.proofs.Basics.{ℕ, Bool, true, false, List, [], _∷_, _++_, map, _≡_, refl}
+-- Document 01, "Bench cases": the T cases on times, start times and the decision, in one table; an accepted answer of each kind of request;
+-- and demand 3 on one of them.
+use Rattle.lemmas.proofs.Basics.{ℕ, _+_, arith, Bool, true, false, List, [], _∷_, _++_, map, _≡_, refl, ap}
 use lib.IntN.{ℤ, pos, negsuc}
 use Rattle.refusal.specs.Number.{numberOf}
 use Rattle.refusal.specs.Chain.{firstOf, unlessRefused}
@@ -9,7 +9,7 @@ use Rattle.wire.specs.Parts.{partOf, leAt, beAt}
 use Rattle.gkid.specs.declared.FileTime.{FileTime}
 use Rattle.gkid.specs.declared.Gkid.{Gkid}
 use Rattle.gkid.specs.Identifier.{gkid, indexAbove31}
-use Rattle.gkid.specs.Conversion.{gkidAt}
+use Rattle.gkid.specs.Conversion.{l0Step, gkidAt}
 use Rattle.gkid.specs.Start.{startOf, startNumber, startShown}
 use Rattle.rootid.specs.declared.RootId.{RootId}
 use Rattle.rootid.specs.Root.{rootAt, rootBytes, sameRoot}
@@ -21,15 +21,19 @@ use Rattle.reach.specs.Reached.{ofGroup, l1Reaches, l2Reaches, reaches}
 use Rattle.reach.specs.Bits.{bitAt, bit, rowWhere, count, table}
 use Rattle.reach.specs.Maps.{rowOf, mapOf, emptyMap, totalOf}
 use Rattle.reach.specs.Reaches.{keysReach, refusedReach, formReach, reachTotal}
-use Rattle.getkey.specs.declared.Rights.the-variants.{Seed}
+use Rattle.getkey.specs.declared.Rights.{Rights}
+use Rattle.getkey.specs.declared.Rights.the-variants.{Public, Seed}
 use Rattle.request.specs.declared.Root.{Root}
 use Rattle.request.specs.declared.Root.the-variants as root
 use Rattle.request.specs.declared.Request.{Request}
 use Rattle.getkey.specs.declared.Answer.{Answer}
-use Rattle.request.specs.Indices.{below, outside, outOfRange, unset, mixed, laterThenZ, laterThanNow, names, natural, namedOf, askedOf}
+use Rattle.request.specs.Indices.{below, outside, outOfRange, unset, mixed, laterThenZ, laterThanNow, names, indexChecks, natural, namedOf}
+use Rattle.request.specs.Narrowed.{narrowedOf}
 use Rattle.roottable.specs.Rows.{tableWrong, rowAt, suitable, rank}
 use Rattle.roottable.specs.Selection.{every, orElse, firstWhere, firstHighest, chosenRow}
 use Rattle.getkey.specs.Deciding.{rightsTooLow, checks, grantedAt, formFor, wantedOf, withoutRow, withRow, granting, decision, answerNumber, answerAt, answerForm, answerCreates}
+use Rattle.getkey.specs.Waiting.{height, NoWorse}
+use Rattle.getkey.proofs.DemandThree.{waiting-loses-nothing}
 
 -- now, (5, 3, 7); a root; a table of one row, in use since 3, made at 4
 unfoldable pub clock : FileTime
@@ -88,11 +92,11 @@ cases =
 
 -- Each is answered as the table says.
 pub t-cases : map (λ c. reply (c .0)) cases ≡ map (λ c. c .1) cases
-unfolding clock id rows asking reply shownOf cases startOf startNumber startShown numberOf firstOf leOf leBytes beOf beBytes partOf leAt beAt indexAbove31 gkidAt rootAt rootBytes sameRoot keysAllowed l1KeyAllowed l2KeyAllowed keysOf seedForm ofGroup l1Reaches l2Reaches reaches bitAt bit rowWhere count table rowOf mapOf emptyMap totalOf seedChecks keyChecks keysReach refusedReach formReach reachTotal below outside outOfRange unset mixed laterThenZ laterThanNow names natural namedOf askedOf tableWrong rowAt suitable rank every orElse firstWhere firstHighest chosenRow rightsTooLow checks grantedAt formFor wantedOf withoutRow withRow granting unlessRefused decision answerNumber answerAt answerForm
+unfolding clock id rows asking reply shownOf cases startOf startNumber startShown numberOf firstOf leOf leBytes beOf beBytes partOf leAt beAt indexAbove31 gkidAt rootAt rootBytes sameRoot keysAllowed l1KeyAllowed l2KeyAllowed keysOf seedForm ofGroup l1Reaches l2Reaches reaches bitAt bit rowWhere count table rowOf mapOf emptyMap totalOf seedChecks keyChecks keysReach refusedReach formReach reachTotal below outside outOfRange unset mixed laterThenZ laterThanNow names natural namedOf indexChecks narrowedOf tableWrong rowAt suitable rank every orElse firstWhere firstHighest chosenRow rightsTooLow checks grantedAt formFor wantedOf withoutRow withRow granting unlessRefused decision answerNumber answerAt answerForm
 t-cases = refl
 
--- An accepted answer of each kind of request: root given or not, and all -1 or named; and CREATE. So nothing that is shown of accepted
--- answers is empty.
+-- An accepted answer of each kind of request: root given or not, and all -1 or named, which takes seed rights; and CREATE. So nothing that
+-- is shown of accepted answers is empty.
 pub record Kind : Type 0 where
   pub given : Bool
   pub naming : Bool
@@ -103,22 +107,39 @@ unfoldable pub given : Root → Bool
 given root.None = false
 given (root.Given id) = true
 
-unfoldable pub kindOf : Request → List ℕ → Kind
-kindOf q t =
-    record { given = given (q .root); naming = names q; number = answerNumber (decision true Seed q clock t); create = answerCreates (decision true Seed q clock t) }
+unfoldable pub kindOf : Rights → Request → List ℕ → Kind
+kindOf rights q t =
+    record { given = given (q .root); naming = names q; number = answerNumber (decision true rights q clock t); create = answerCreates (decision true rights q clock t) }
 
 abbrev pub accepted : Bool → Bool → Bool → Kind
 accepted given naming create = record { given = given; naming = naming; number = 0; create = create }
 
-unfoldable pub kinds : List ((Request × List ℕ) × Kind)
+unfoldable pub latest : Root → Request
+latest root = asking root (negsuc 0) (negsuc 0) (negsuc 0)
+
+unfoldable pub kinds : List ((Rights × (Request × List ℕ)) × Kind)
 kinds =
-    ((asking root.None (negsuc 0) (negsuc 0) (negsuc 0), rows), accepted false false false)
-    ∷ ((asking root.None (pos 4) (pos 0) (pos 2), rows), accepted false true false)
-    ∷ ((asking (root.Given id) (negsuc 0) (negsuc 0) (negsuc 0), rows), accepted true false false)
-    ∷ ((asking (root.Given id) (pos 5) (pos 0) (pos 0), rows), accepted true true false)
-    ∷ ((asking root.None (negsuc 0) (negsuc 0) (negsuc 0), []), accepted false false true)
+    ((Public, (latest root.None, rows)), accepted false false false)
+    ∷ ((Public, (latest (root.Given id), rows)), accepted true false false)
+    ∷ ((Public, (latest root.None, [])), accepted false false true)
+    ∷ ((Seed, (latest root.None, rows)), accepted false false false)
+    ∷ ((Seed, (latest (root.Given id), rows)), accepted true false false)
+    ∷ ((Seed, (latest root.None, [])), accepted false false true)
+    ∷ ((Seed, (asking root.None (pos 4) (pos 0) (pos 2), rows)), accepted false true false)
+    ∷ ((Seed, (asking (root.Given id) (pos 5) (pos 0) (pos 0), rows)), accepted true true false)
     ∷ []
 
-pub each-kind-accepted : map (λ k. kindOf (k .0 .0) (k .0 .1)) kinds ≡ map (λ k. k .1) kinds
-unfolding clock id rows asking kinds kindOf given numberOf firstOf leOf leBytes beOf beBytes partOf leAt beAt gkidAt rootAt rootBytes sameRoot below outside outOfRange unset mixed laterThenZ laterThanNow names natural namedOf askedOf tableWrong rowAt suitable rank every orElse firstWhere firstHighest chosenRow rightsTooLow checks grantedAt wantedOf withoutRow withRow granting unlessRefused decision answerNumber answerCreates
+pub each-kind-accepted : map (λ k. kindOf (k .0 .0) (k .0 .1 .0) (k .0 .1 .1)) kinds ≡ map (λ k. k .1) kinds
+unfolding clock id rows asking latest kinds kindOf given numberOf firstOf leOf leBytes beOf beBytes partOf leAt beAt gkidAt rootAt rootBytes sameRoot below outside outOfRange unset mixed laterThenZ laterThanNow names natural namedOf indexChecks narrowedOf tableWrong rowAt suitable rank every orElse firstWhere firstHighest chosenRow rightsTooLow checks grantedAt wantedOf withoutRow withRow granting unlessRefused decision answerNumber answerCreates
 each-kind-accepted = refl
+
+numberFirst : List Kind → ℕ
+numberFirst [] = 1
+numberFirst (k ∷ ks) = k .number
+
+-- Demand 3 on the first of them, asked again an L0 step later with seed rights.
+pub public-then-seed : NoWorse (decision true Public (latest root.None) clock rows) (decision true Seed (latest root.None) (record { 0 = clock .0 + l0Step }) rows)
+unfolding height kinds kindOf numberFirst
+public-then-seed =
+    waiting-loses-nothing true (latest root.None) rows (record { clock = clock; rights = Public }) (record { clock = record { 0 = clock .0 + l0Step }; rights = Seed }) (omega arith) (omega arith) .again
+    (ap numberFirst each-kind-accepted)

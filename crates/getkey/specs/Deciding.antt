@@ -22,13 +22,16 @@ use Rattle.request.specs.declared.Root.the-variants as root
 use Rattle.request.specs.declared.Request.{Request}
 use Rattle.request.specs.declared.Asked.{Asked}
 use Rattle.request.specs.declared.Asked.the-variants.{Latest, Named}
+use Rattle.request.specs.declared.Narrowing.{Narrowing}
+use Rattle.request.specs.declared.Narrowing.the-variants as narrowing
 use Rattle.roottable.specs.declared.Wanted.{Wanted}
 use Rattle.roottable.specs.declared.Wanted.the-variants as wanted
 use Rattle.roottable.specs.declared.Found.{Found}
 use Rattle.roottable.specs.declared.Found.the-variants as found
 use Rattle.getkey.specs.declared.Answer.{Answer}
 use Rattle.getkey.specs.declared.Answer.the-variants.{Granted, Create, Refused}
-use Rattle.request.specs.Indices.{outOfRange, mixed, laterThanNow, names, askedOf}
+use Rattle.request.specs.Indices.{outOfRange, mixed, laterThanNow, names}
+use Rattle.request.specs.Narrowed.{narrowedOf}
 use Rattle.roottable.specs.Rows.{tableWrong}
 use Rattle.roottable.specs.Selection.{chosenRow}
 
@@ -55,7 +58,7 @@ grantedAt (Named i) root.None present = i
 grantedAt (Named i) (root.Given id) present = cond (ltb (i .l0 .0) (present .l0 .0)) (gkid (i .l0 .0) 31 31) present
 grantedAt Latest root present = present
 
--- public rights give PUBLIC, seed rights the seed form; no rights are refused before, and give no key
+-- public rights give PUBLIC, seed rights the seed form; no rights give no key
 unfoldable pub formFor : Rights → Gkid → Form
 formFor rights.None at = form.Keyless
 formFor rights.Public at = form.Public
@@ -73,18 +76,21 @@ withoutRow root.None Latest at form = Create at form
 withoutRow root.None (Named i) at form = Refused NoRootKey
 withoutRow (root.Given id) asked at form = Refused NoRootKey
 
+-- what comes of the search for a row; 20 as it stands
 unfoldable pub withRow : Found → Root → Asked → Gkid → Form → Answer
 withRow (found.Row k) root asked at form = Granted at form k
 withRow found.None root asked at form = withoutRow root asked at form
+withRow (found.Refused r) root asked at form = Refused r
 
--- what is granted once every check but 19 is passed
-unfoldable pub granting : Rights → Root → Asked → Gkid → List ℕ → Answer
-granting rights root asked present table =
+-- what the indices ask for, if a row is found; 14 and 15 as they stand
+unfoldable pub granting : Rights → Root → Narrowing → Gkid → List ℕ → Answer
+granting rights root (narrowing.Refused r) present table = Refused r
+granting rights root (narrowing.Asks asked) present table =
     withRow (chosenRow (wantedOf root asked) table) root asked (grantedAt asked root present) (formFor rights (grantedAt asked root present))
 
 unfoldable pub decision : Bool → Rights → Request → FileTime → List ℕ → Answer
 decision verdict rights q clock table =
-    unlessRefused Refused (firstOf (checks verdict rights q (gkidAt clock) (length table))) (granting rights (q .root) (askedOf q) (gkidAt clock) table)
+    unlessRefused Refused (firstOf (checks verdict rights q (gkidAt clock) (length table))) (granting rights (q .root) (narrowedOf q) (gkidAt clock) table)
 
 -- the start of what is named, as 64 bits hold it
 abbrev pub Starts : Asked → Type 0

@@ -1,15 +1,19 @@
--- Demand 3, waiting loses nothing: its words, over the decision and the reach of a form.
+-- Demand 3, waiting loses nothing: its words over the decision and the reach of a form, and the whole of it as one statement.
 use Prim.Native.Nat.{ℕ, _+_, _*_, _≤_}
-use mathlib.Core.Bool.{Bool, false, not, _&&_}
+use mathlib.Core.Bool.{Bool, true, false, not, _&&_}
+use mathlib.Core.List.{List}
 use mathlib.Core.Path.{_≡_}
+use Rattle.gkid.specs.declared.FileTime.{FileTime}
 use Rattle.gkid.specs.declared.Gkid.{Gkid}
 use Rattle.gkid.specs.Identifier.{later}
 use Rattle.reach.specs.Reached.{ofGroup}
 use Rattle.reach.specs.Reaches.{formReach, reachNumber, reachTotal, reachedIn}
+use Rattle.request.specs.declared.Request.{Request}
+use Rattle.request.specs.Indices.{names, namedOf}
 use Rattle.getkey.specs.declared.Rights.{Rights}
 use Rattle.getkey.specs.declared.Rights.the-variants.{None, Public, Seed}
 use Rattle.getkey.specs.declared.Answer.{Answer}
-use Rattle.getkey.specs.Deciding.{answerNumber, answerAt, answerForm, answerRow, answerCreates}
+use Rattle.getkey.specs.Deciding.{decision, answerNumber, answerAt, answerForm, answerRow, answerCreates}
 
 -- none, public, seed
 unfoldable pub height : Rights → ℕ
@@ -21,11 +25,16 @@ height Seed = 2
 abbrev pub NoLower : Rights → Rights → Type 0
 NoLower first second = height first ≤ height second
 
+-- one asking: the clock and the rights, which alone may differ
+pub record Asking : Type 0 where
+  pub clock : FileTime
+  pub rights : Rights
+
 -- accepted is number 0, CREATE included
 abbrev pub Accepted : Answer → Type 0
 Accepted answer = answerNumber answer ≡ 0
 
--- accepted too, with the same root row or the same CREATE, and an identifier not earlier
+-- so is the second, with the same root row or the same CREATE, and an identifier not earlier
 pub record NoWorse (first second : Answer) : Type 0 where
   pub accepted : Accepted second
   pub row : answerRow second ≡ answerRow first
@@ -37,8 +46,26 @@ pub record NoWorse (first second : Answer) : Type 0 where
 unfoldable pub reachedBy : Answer → Gkid → Bool
 reachedBy answer i = reachedIn (answerAt answer) (formReach (answerForm answer) (answerAt answer)) i
 
--- not refused, exactly the identifiers of that L0 group up to the granted one, 32·L1 + L2 + 1 of them
-pub record ReachesUpTo (answer : Answer) : Type 0 where
+-- the granted one is of the named one's L0 group; the form's reach is not refused, and is exactly the identifiers of that L0 group up to
+-- the granted one, total 32·L1 + L2 + 1; so the named one is reached
+pub record ReachesUpTo (named : Gkid) (answer : Answer) : Type 0 where
+  pub group : answerAt answer .l0 .0 ≡ named .l0 .0
   pub accepted : reachNumber (formReach (answerForm answer) (answerAt answer)) ≡ 0
-  pub reached : (i : Gkid) → reachedBy answer i ≡ ofGroup (answerAt answer) i && not (later i (answerAt answer))
+  pub reached : (i : Gkid) → reachedBy answer i ≡ ofGroup named i && not (later i (answerAt answer))
   pub total : reachTotal (formReach (answerForm answer) (answerAt answer)) ≡ 32 * answerAt answer .l1 .0 + answerAt answer .l2 .0 + 1
+  pub itself : reachedBy answer named ≡ true
+
+module _ (verdict : Bool) (q : Request) (table : List ℕ) where
+  abbrev pub answerTo : Asking → Answer
+  answerTo a = decision verdict (a .rights) q (a .clock) table
+
+  -- "Waiting loses nothing. The same request, table and verdict asked again with the clock equal or later and the rights equal or higher
+  -- (none, public, seed):
+  pub record LosesNothing (first second : Asking) : Type 0 where
+    -- if the first is accepted, so is the second, with the same root row or the same CREATE, and an identifier not earlier.
+    pub again : Accepted (answerTo first) → NoWorse (answerTo first) (answerTo second)
+    -- Whenever a request that names an identifier is accepted, the granted form reaches exactly the identifiers of that L0 group up to the
+    -- granted one, total 32·L1 + L2 + 1; so the named one is reached,
+    pub whenever : (a : Asking) → names q ≡ true → Accepted (answerTo a) → ReachesUpTo (namedOf q) (answerTo a)
+    -- and what the first form reaches, the second reaches too."
+    pub still : names q ≡ true → Accepted (answerTo first) → (i : Gkid) → reachedBy (answerTo first) i ≡ true → reachedBy (answerTo second) i ≡ true

@@ -1,10 +1,12 @@
 // Document 01, "The GetKey decision" (MS-GKDI 3.1.4.1): from a descriptor's verdict, rights, a request, a clock reading and the root
 // table to the identifier granted, the form and the root row, or the refusal.
 ghost use mathlib.Core.Path.{_≡_};
-ghost use Prim.Native.Nat.{_<_, _^_};
+ghost use Prim.Native.Nat.{ℕ, _<_, _^_};
+ghost use lib.ListN.{take};
 ghost use Rattle.refusal.specs.Chain.{firstOf};
 ghost use Rattle.gkid.specs.Identifier.{InGroup};
 ghost use Rattle.gkid.specs.Start.{startTime};
+ghost use Rattle.request.specs.declared.Narrowing.the-variants.{Asks};
 ghost use Rattle.getkey.specs.Deciding.{rightsTooLow, checks, grantedAt, formFor, wantedOf, withoutRow, granting, decision, Starts};
 use gkid::FileTime;
 use gkid::Gkid;
@@ -16,12 +18,12 @@ use keys::seed_form;
 use refusal::Outcome;
 use refusal::Refusal;
 use request::Asked;
+use request::Narrowing;
 use request::Request;
 use request::Root;
 use roottable::Found;
 use roottable::Wanted;
 use roottable::choose;
-use roottable::is_table_wrong;
 
 // What the caller may be given: nothing, public keys, or seed keys.
 pub enum Rights {
@@ -48,18 +50,21 @@ pub fn decide(
     ensures { λ r. ⌜ r ≡ decision verdict rights request clock (now (table .entry)) ⌝ }
 {
     let present = Gkid::at(clock);
-    match judge(verdict, rights, request, present, table.len()) {
+    match judge(verdict, rights, request, present) {
         Outcome::Refused(refusal) => Answer::Refused(refusal),
-        Outcome::Accepted => {
-            let root = request.root;
-            grant(rights, root, request.narrowed(), present, table)
-        }
+        Outcome::Accepted => match request.narrowed() {
+            Narrowing::Refused(refusal) => Answer::Refused(refusal),
+            Narrowing::Asks(asked) => {
+                let root = request.root;
+                grant(rights, root, asked, present, table)
+            }
+        },
     }
 }
 
-// 16, 14, 15, 17, 18, 20.
-fn judge(verdict: bool, rights: Rights, request: Request, present: Gkid, len: usize) -> Outcome
-    ensures { λ r. ⌜ r ≡ firstOf (checks verdict rights request present len) ⌝ }
+// 16, 14, 15, 17, 18: the checks but for the last, 20, which `choose` answers.
+fn judge(verdict: bool, rights: Rights, request: Request, present: Gkid) -> Outcome
+    ensures { λ r. ⌜ ((len : ℕ) → r ≡ firstOf (take 5 (checks verdict rights request present len))) ⌝ }
 {
     if !verdict {
         return Outcome::Refused(Refusal::VerdictNo);
@@ -76,22 +81,20 @@ fn judge(verdict: bool, rights: Rights, request: Request, present: Gkid, len: us
     if rights.are_too_low(request.names_one()) {
         return Outcome::Refused(Refusal::RightsTooLow);
     }
-    if is_table_wrong(len) {
-        return Outcome::Refused(Refusal::TableLength);
-    }
     Outcome::Accepted
 }
 
-// What is granted once every check but 19 is passed.
+// What is asked for, if a row is found: 20, 19.
 fn grant(rights: Rights, root: Root, asked: Asked, present: Gkid, table: &[u8]) -> Answer
     requires { ⌜ Starts asked ⌝ }
-    ensures { λ r. ⌜ r ≡ granting rights root asked present (now (table .entry)) ⌝ }
+    ensures { λ r. ⌜ r ≡ granting rights root (Asks asked) present (now (table .entry)) ⌝ }
 {
     let at = granted_at(asked, root, present);
     let form = rights.form(at);
     match choose(row_wanted(root, asked), table) {
         Found::Row(row) => Answer::Granted { at, form, row },
         Found::None => without_row(root, asked, at, form),
+        Found::Refused(refusal) => Answer::Refused(refusal),
     }
 }
 

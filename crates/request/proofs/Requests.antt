@@ -1,12 +1,42 @@
--- Laws of requests that neither 14 nor 15 refuses: their indices are all -1 or all 0 and above, and then naturals.
+-- Laws of requests: what their indices show once narrowed; and where neither 14 nor 15 refuses them, they are all -1 or all 0 and above.
 use Rattle.lemmas.proofs.Basics.{ℕ, arith, Bool, true, false, cond, true≢false, _≡_, refl, ltb, eqb, ltb-true, ltb-false, eq-eqb, ne-eqb}
 use lib.IntN.{ℤ, pos, negsuc}
 use Rattle.lemmas.proofs.Cases.{by-cases, or-false}
+use Rattle.refusal.specs.declared.Outcome.{Outcome}
+use Rattle.refusal.specs.declared.Outcome.the-variants as outcome
+use Rattle.refusal.specs.Chain.{firstOf, unlessRefused}
+use Rattle.refusal.specs.Number.{outcomeNumber}
+use Rattle.refusal.proofs.Numbers.{number-not-zero}
 use Rattle.gkid.specs.declared.Gkid.{Gkid}
-use Rattle.gkid.specs.Identifier.{InGroup, laterThen, later}
+use Rattle.gkid.specs.Identifier.{gkid, InGroup, laterThen, later}
 use Rattle.request.specs.declared.Root.{Root}
 use Rattle.request.specs.declared.Request.{Request}
-use Rattle.request.specs.Indices.{below, outside, outOfRange, unset, mixed, laterThenZ, laterThanNow, names, natural, namedOf}
+use Rattle.request.specs.declared.Asked.{Asked}
+use Rattle.request.specs.declared.Asked.the-variants.{Latest, Named}
+use Rattle.request.specs.declared.Narrowing.{Narrowing}
+use Rattle.request.specs.declared.Narrowing.the-variants as narrowing
+use Rattle.request.specs.Indices.{below, outside, outOfRange, unset, mixed, indexChecks, laterThenZ, laterThanNow, names, natural, namedOf}
+use Rattle.request.specs.Narrowed.{narrowedOf, narrowedNumber, narrowedNames, narrowedShown, namedOrZeros}
+
+-- what stands behind 14 and 15
+abbrev pub askedOf : Request → Asked
+askedOf q = cond (names q) (Named (namedOf q)) Latest
+
+pub narrowed-asks : (q : Request) → outOfRange q ≡ false → mixed q ≡ false → narrowedOf q ≡ narrowing.Asks (askedOf q)
+unfolding narrowedOf indexChecks firstOf unlessRefused
+narrowed-asks q h e = rw (h, e)
+
+-- The number is that of the checks, and where they are accepted, what is named is shown.
+pub narrowed-shows : (q : Request) {r : Narrowing} → r ≡ narrowedOf q
+    → (r ≡ narrowedOf q) × ((narrowedNumber r ≡ outcomeNumber (firstOf (indexChecks q))) × (narrowedNumber r ≡ 0 → (narrowedNames r ≡ names q) × (narrowedShown r ≡ namedOrZeros q)))
+unfolding narrowedOf narrowedNumber narrowedNames narrowedShown namedOrZeros unlessRefused outcomeNumber
+narrowed-shows q e = rw e (refl, of (firstOf (indexChecks q)) (names q) (namedOf q))
+  where
+    of : (o : Outcome) (n : Bool) (i : Gkid) → let r = unlessRefused narrowing.Refused o (narrowing.Asks (cond n (Named i) Latest)) in
+        (narrowedNumber r ≡ outcomeNumber o) × (narrowedNumber r ≡ 0 → (narrowedNames r ≡ n) × (narrowedShown r ≡ cond n i (gkid 0 0 0)))
+    of outcome.Accepted true i = (refl, λ _. (refl, refl))
+    of outcome.Accepted false i = (refl, λ _. (refl, refl))
+    of (outcome.Refused r) n i = (refl, λ z. absurd (number-not-zero r z))
 
 -- Either no index names anything, and the request is never later than now; or all do, and it is later where the named one is.
 pub data Asks (q : Request) : Type 0 where

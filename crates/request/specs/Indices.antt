@@ -1,14 +1,15 @@
--- Document 01, "The GetKey decision": the three signed indices of a request, and what they ask for.
+-- Document 01, "The GetKey decision": the three signed indices of a request, their checks, and what they name.
 use Prim.Native.Nat.{ℕ}
 use mathlib.Core.Bool.{Bool, true, false, cond, not, _&&_, _||_}
+use mathlib.Core.List.{List, [], _∷_}
 use lib.Dec.{eqb}
 use lib.IntN.{ℤ, pos, negsuc}
 use lib.Signed.{ltZ, nonNeg}
+use Rattle.refusal.specs.declared.Refusal.the-variants.{IndexOutOfRange, MixedIndices}
+use Rattle.refusal.specs.Chain.{Check, _⇒_}
 use Rattle.gkid.specs.declared.Gkid.{Gkid}
 use Rattle.gkid.specs.Identifier.{gkid}
 use Rattle.request.specs.declared.Request.{Request}
-use Rattle.request.specs.declared.Asked.{Asked}
-use Rattle.request.specs.declared.Asked.the-variants.{Latest, Named}
 
 -- an index below -1
 unfoldable pub below : ℤ → Bool
@@ -31,6 +32,10 @@ unset (negsuc n) = eqb n 0
 unfoldable pub mixed : Request → Bool
 mixed q = (unset (q .l0) || (unset (q .l1) || unset (q .l2))) && not (unset (q .l0) && (unset (q .l1) && unset (q .l2)))
 
+-- the checks of the indices alone: 14, 15
+unfoldable pub indexChecks : Request → List Check
+indexChecks q = (outOfRange q ⇒ IndexOutOfRange) ∷ (mixed q ⇒ MixedIndices) ∷ []
+
 -- signed: an index is later than now's, or earlier, or the next one decides
 unfoldable pub laterThenZ : ℤ → ℕ → Bool → Bool
 laterThenZ index present next = cond (ltZ (pos present) index) true (cond (ltZ index (pos present)) false next)
@@ -50,7 +55,3 @@ natural (negsuc n) = 0
 -- that triple is the named one
 unfoldable pub namedOf : Request → Gkid
 namedOf q = gkid (natural (q .l0)) (natural (q .l1)) (natural (q .l2))
-
--- what is asked for: the named one, or the latest
-unfoldable pub askedOf : Request → Asked
-askedOf q = cond (names q) (Named (namedOf q)) Latest

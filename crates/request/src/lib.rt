@@ -2,11 +2,15 @@
 ghost use mathlib.Core.Path.{_≡_};
 ghost use mathlib.Core.Bool.{not, _&&_, _||_};
 ghost use lib.Signed.{nonNeg};
-ghost use Rattle.request.specs.Indices.{below, outside, unset, natural, outOfRange, mixed, names, askedOf, laterThenZ, laterThanNow};
+ghost use Rattle.refusal.specs.Chain.{firstOf};
+ghost use Rattle.refusal.specs.Number.{outcomeNumber};
+ghost use Rattle.request.specs.Indices.{below, outside, unset, natural, outOfRange, mixed, indexChecks, names, laterThenZ, laterThanNow};
+ghost use Rattle.request.specs.Narrowed.{narrowedOf, narrowedNumber, narrowedNames, narrowedShown, namedOrZeros};
 use gkid::Gkid;
 use gkid::L0;
 use gkid::L1;
 use gkid::L2;
+use refusal::Refusal;
 use rootid::RootId;
 
 // The root key that a request names, or none.
@@ -23,10 +27,16 @@ pub struct Request {
     pub l2: i32,
 }
 
-// What the indices ask for, once they are in range and not mixed.
+// What a request asks for: the latest, or the identifier that it names.
 pub enum Asked {
     Latest,
     Named(Gkid),
+}
+
+// The indices narrowed: what they ask for, or 14 or 15.
+pub enum Narrowing {
+    Asks(Asked),
+    Refused(Refusal),
 }
 
 impl Request {
@@ -64,18 +74,26 @@ impl Request {
         )
     }
 
-    // The indices narrowed to an identifier.
-    pub fn narrowed(self) -> Asked
-        ensures { λ r. ⌜ r ≡ askedOf self ⌝ }
+    // The indices narrowed: 14, then 15; else the identifier named, or the latest.
+    pub fn narrowed(self) -> Narrowing
+        ensures answer { λ r. ⌜ r ≡ narrowedOf self ⌝ }
+        ensures number { λ r. ⌜ narrowedNumber r ≡ outcomeNumber (firstOf (indexChecks self)) ⌝ }
+        ensures shown { λ r. ⌜ (narrowedNumber r ≡ 0 → (narrowedNames r ≡ names self) × (narrowedShown r ≡ namedOrZeros self)) ⌝ }
     {
+        if self.out_of_range() {
+            return Narrowing::Refused(Refusal::IndexOutOfRange);
+        }
+        if self.is_mixed() {
+            return Narrowing::Refused(Refusal::MixedIndices);
+        }
         if self.names_one() {
-            return Asked::Named(Gkid {
+            return Narrowing::Asks(Asked::Named(Gkid {
                 l0: L0(narrow(self.l0)),
                 l1: L1(narrow(self.l1)),
                 l2: L2(narrow(self.l2)),
-            });
+            }));
         }
-        Asked::Latest
+        Narrowing::Asks(Asked::Latest)
     }
 }
 
@@ -90,7 +108,7 @@ fn is_below(index: i32) -> bool
 fn is_outside(index: i32) -> bool
     ensures { λ r. ⌜ r ≡ outside index ⌝ }
 {
-    is_below(index) || index > 31
+    is_below(index) | (index > 31)
 }
 
 // 0 or above.
@@ -118,27 +136,21 @@ fn narrow(index: i32) -> u32
 fn any(a: bool, b: bool, c: bool) -> bool
     ensures { λ r. ⌜ r ≡ a || (b || c) ⌝ }
 {
-    if a {
-        return true;
-    }
-    b || c
+    a | (b | c)
 }
 
 // All three hold.
 fn all(a: bool, b: bool, c: bool) -> bool
     ensures { λ r. ⌜ r ≡ a && (b && c) ⌝ }
 {
-    if a {
-        return b && c;
-    }
-    false
+    a & (b & c)
 }
 
 // Some of three hold, and not all.
 fn mix(a: bool, b: bool, c: bool) -> bool
     ensures { λ r. ⌜ r ≡ (a || (b || c)) && not (a && (b && c)) ⌝ }
 {
-    any(a, b, c) && !all(a, b, c)
+    (a != b) | (b != c)
 }
 
 // Signed: the later is told by an index or, where that is the same, by the next one.

@@ -1,14 +1,16 @@
 -- Laws of the choice of a row: the chosen row is suitable, no suitable row is higher, none before it as high; none is chosen exactly
 -- where none is suitable; and one pass over the rows finds it.
-use Rattle.lemmas.proofs.Basics.{ℕ, zero, suc, _≤_, _<_, arith, Bool, true, false, cond, not, _&&_, _||_, true≢false, List, _≡_, refl, sym, subst, _∙_, ltb, leb, ltb-true, ltb-false, le-leb, leb-true, below-more}
+use Rattle.lemmas.proofs.Basics.{ℕ, zero, suc, _≤_, _<_, arith, Bool, true, false, cond, not, _&&_, _||_, true≢false, false≢true, List, _≡_, refl, sym, subst, _∙_, length, ltb, leb, ltb-true, ltb-false, le-leb, leb-true, below-more}
+use Rattle.refusal.specs.declared.Refusal.the-variants.{TableLength}
+use Rattle.refusal.specs.Number.{numberOf}
 use Rattle.lemmas.proofs.Cases.{by-cases, cond-cases, both-true}
 use Rattle.roottable.specs.declared.Wanted.{Wanted}
 use Rattle.roottable.specs.declared.Found.{Found}
 use Rattle.roottable.specs.declared.Found.the-variants as found
 use Rattle.roottable.specs.declared.Best.{Best}
 use Rattle.roottable.specs.declared.Best.the-variants as best
-use Rattle.roottable.specs.Rows.{rowAt, rowCount, suitable, rank}
-use Rattle.roottable.specs.Selection.{every, orElse, firstWhere, firstHighest, chosenRow}
+use Rattle.roottable.specs.Rows.{tableWrong, rowAt, rowCount, suitable, rank}
+use Rattle.roottable.specs.Selection.{every, orElse, firstWhere, firstHighest, chosenRow, foundNumber, foundAny, foundRow, tableNumber}
 use Rattle.roottable.specs.Passing.{better, stepOf}
 
 -- of n places, k is suitable, no suitable one is higher, and none before it as high
@@ -24,6 +26,7 @@ NoneSuits n suits = (j : ℕ) → j < n → suits j ≡ false
 abbrev pub Says : ℕ → (ℕ → Bool) → (ℕ → ℕ) → Found → Type 0
 Says n suits height (found.Row k) = Chosen n suits height k
 Says n suits height found.None = NoneSuits n suits
+Says n suits height (found.Refused r) = ⊥
 
 every-all : (n : ℕ) (test : ℕ → Bool) → every n test ≡ true → (j : ℕ) → j < n → test j ≡ true
 unfolding every
@@ -73,6 +76,7 @@ unfolding firstHighest
 says-is n suits height (found.Row k) c =
     first-is n k (Test n suits height) (c .within) (chosen-test n suits height k c) (λ j h. beaten n suits height j k (c .within) (c .suited) (c .first j h))
 says-is n suits height found.None none = first-none n (Test n suits height) (λ j h. rw (none j h))
+says-is n suits height (found.Refused r) never = absurd never
 
 -- what the best of the first n places says
 abbrev pub BestSays : ℕ → (ℕ → Bool) → (ℕ → ℕ) → Best → Type 0
@@ -162,13 +166,30 @@ suits wanted table k = suitable wanted (rowAt table k)
 abbrev pub ranks : Wanted → List ℕ → ℕ → ℕ
 ranks wanted table k = rank wanted (rowAt table k)
 
--- So is the row chosen.
-pub chosen-row : (wanted : Wanted) (table : List ℕ) → Says (rowCount table) (suits wanted table) (ranks wanted table) (chosenRow wanted table)
+-- So is the row chosen, where the table is whole.
+pub chosen-row : (wanted : Wanted) (table : List ℕ) → tableWrong (length table) ≡ false
+    → Says (rowCount table) (suits wanted table) (ranks wanted table) (chosenRow wanted table)
 unfolding chosenRow
-chosen-row wanted table = first-highest (rowCount table) (suits wanted table) (ranks wanted table)
+chosen-row wanted table e = rw e (first-highest (rowCount table) (suits wanted table) (ranks wanted table))
+
+-- The number is 20's or 0, and a row that is found lies in the table.
+shows : (n : ℕ) (suits : ℕ → Bool) (height : ℕ → ℕ) (wrong : Bool) (f : Found) → Says n suits height f → let g = cond wrong (found.Refused TableLength) f in
+    (foundNumber g ≡ cond wrong (numberOf TableLength) 0) × (foundAny g ≡ true → foundRow g < n)
+unfolding foundNumber foundAny foundRow
+shows n suits height true f s = (refl, λ e. absurd (false≢true e))
+shows n suits height false found.None s = (refl, λ e. absurd (false≢true e))
+shows n suits height false (found.Row k) s = (refl, λ _. s .within)
+shows n suits height false (found.Refused r) s = absurd s
+
+pub row-shows : (wanted : Wanted) (table : List ℕ) {f : Found} → f ≡ chosenRow wanted table
+    → (f ≡ chosenRow wanted table) × ((foundNumber f ≡ tableNumber table) × (foundAny f ≡ true → foundRow f < rowCount table))
+unfolding chosenRow tableNumber
+row-shows wanted table e = rw e (refl, shows _ _ _ (tableWrong (length table)) _ (first-highest (rowCount table) (suits wanted table) (ranks wanted table)))
 
 -- And the best of all rows is that row.
-pub best-row : (wanted : Wanted) (table : List ℕ) (b : Best) → BestSays (rowCount table) (suits wanted table) (ranks wanted table) b → chosenRow wanted table ≡ place b
+pub best-row : (wanted : Wanted) (table : List ℕ) (b : Best) → tableWrong (length table) ≡ false
+    → BestSays (rowCount table) (suits wanted table) (ranks wanted table) b → chosenRow wanted table ≡ place b
 unfolding chosenRow
-best-row wanted table b says =
-    says-is (rowCount table) (suits wanted table) (ranks wanted table) (place b) (placed (rowCount table) (suits wanted table) (ranks wanted table) b says)
+best-row wanted table b e says =
+    rw e
+    (says-is (rowCount table) (suits wanted table) (ranks wanted table) (place b) (placed (rowCount table) (suits wanted table) (ranks wanted table) b says))

@@ -21,10 +21,11 @@ mostRows = 64
 unfoldable pub tableWrong : ℕ → Bool
 tableWrong len = not (eqb (len % rowSize) 0) || ltb mostRows (len / rowSize)
 
+-- whole rows
 abbrev pub rowCount : List ℕ → ℕ
 rowCount table = length table / rowSize
 
--- the row at a place, counted from 0
+-- the row at a place, counted from 0; of what does not lie inside, zeros
 unfoldable pub rowAt : List ℕ → ℕ → Row
 rowAt table k =
     record {

@@ -1,10 +1,12 @@
 // Document 01, "The GetKey decision": the root table, rows of 32 bytes, and the choice of a row, in one pass.
 ghost use mathlib.Core.Path.{_≡_};
+ghost use mathlib.Core.Bool.{true};
 ghost use Prim.Native.Nat.{_<_};
 ghost use Rattle.roottable.specs.Rows.{rowAt, rowCount, suitable, rank, tableWrong};
-ghost use Rattle.roottable.specs.Selection.{chosenRow};
+ghost use Rattle.roottable.specs.Selection.{tableNumber, chosenRow, foundNumber, foundAny, foundRow};
 ghost use Rattle.roottable.specs.Passing.{better, stepOf};
 use gkid::FileTime;
+use refusal::Refusal;
 use rootid::RootId;
 
 // A row is 32 bytes, and a table has at most 64.
@@ -32,23 +34,29 @@ enum Best {
     Row { row: usize, rank: u64 },
 }
 
-// A row chosen by its place, or none.
+// A row chosen by its place, or none; or 20.
 pub enum Found {
     None,
     Row(usize),
+    Refused(Refusal),
 }
 
 // 20: no multiple of 32, or over 64 rows.
-pub fn is_table_wrong(len: usize) -> bool
+fn is_table_wrong(len: usize) -> bool
     ensures { λ r. ⌜ r ≡ tableWrong len ⌝ }
 {
     len % ROW_SIZE != 0 || len / ROW_SIZE > MOST_ROWS
 }
 
-// The row that is wanted, in one pass over the table.
+// The row that is wanted, in one pass over the table; 20 before it.
 pub fn choose(wanted: Wanted, table: &[u8]) -> Found
-    ensures { λ r. ⌜ r ≡ chosenRow wanted (now (table .entry)) ⌝ }
+    ensures answer { λ r. ⌜ r ≡ chosenRow wanted (now (table .entry)) ⌝ }
+    ensures number { λ r. ⌜ foundNumber r ≡ tableNumber (now (table .entry)) ⌝ }
+    ensures row { λ r. ⌜ (foundAny r ≡ true → foundRow r < rowCount (now (table .entry))) ⌝ }
 {
+    if is_table_wrong(table.len()) {
+        return Found::Refused(Refusal::TableLength);
+    }
     let rows = table.len() / ROW_SIZE;
     let mut best = Best::None;
     let mut k = 0;

@@ -319,7 +319,7 @@ pub fn identifier_older(at: Identifier) -> IdentifierAnswer {
     }
 }
 
-/// The GetKey decision. A verdict or a root's code that isn't listed is the weakest: no, and none.
+/// The GetKey decision. A verdict that isn't listed is no; every value but 0 gives a root.
 #[inline]
 pub fn decide(
     verdict: u32,
@@ -328,7 +328,7 @@ pub fn decide(
     clock: u64,
     table: &[u8],
 ) -> DecisionAnswer {
-    let given = request.root_given == codes::ROOT_GIVEN;
+    let given = request.root_given != codes::ROOT_NONE;
     let asked = decision::Request {
         root: given.then_some(request.root.bytes),
         l0: request.l0,

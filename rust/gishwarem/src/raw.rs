@@ -222,7 +222,7 @@ pub struct StartAnswer {
 #[repr(C)]
 #[derive(Debug, Clone, Copy, PartialEq, Eq, Default)]
 pub struct Request {
-    /// 1 where a root key is given.
+    /// 0 where no root key is given; every other value gives the one in `root`.
     pub root_given: u32,
     /// L0 index, or -1 in all three for the latest.
     pub l0: i32,

@@ -7,25 +7,25 @@ use Rattle.getkey.proofs.judge.Tie as tie
 
 returns : tie.Need-returns
 unfolding checks firstOf
-returns c = rw ((c .if1 .taken))
+returns c = λ len. rw ((c .if1 .taken))
 
 returns-2 : tie.Need-returns-2
 unfolding checks firstOf
 returns-2 c = let i1 = c .before .before in
-    rw ((i1 .if1 .left), (sym (c .before .out-of-range .ensures) ∙ c .if2 .taken))
+    λ len. rw ((i1 .if1 .left), (sym (c .before .out-of-range .ensures) ∙ c .if2 .taken))
 
 returns-3 : tie.Need-returns-3
 unfolding checks firstOf
 returns-3 c = let i2 = c .before .before in
     let i1 = i2 .before .before in
-    rw ((i1 .if1 .left), (sym (i2 .before .out-of-range .ensures) ∙ i2 .if2 .left), (sym (c .before .is-mixed .ensures) ∙ c .if3 .taken))
+    λ len. rw ((i1 .if1 .left), (sym (i2 .before .out-of-range .ensures) ∙ i2 .if2 .left), (sym (c .before .is-mixed .ensures) ∙ c .if3 .taken))
 
 returns-4 : tie.Need-returns-4
 unfolding checks firstOf
 returns-4 c = let i3 = c .before .before in
     let i2 = i3 .before .before in
     let i1 = i2 .before .before in
-    rw ((i1 .if1 .left), (sym (i2 .before .out-of-range .ensures) ∙ i2 .if2 .left), (sym (i3 .before .is-mixed .ensures) ∙ i3 .if3 .left), (sym (c .before .is-later-than .ensures) ∙ c .if4 .taken))
+    λ len. rw ((i1 .if1 .left), (sym (i2 .before .out-of-range .ensures) ∙ i2 .if2 .left), (sym (i3 .before .is-mixed .ensures) ∙ i3 .if3 .left), (sym (c .before .is-later-than .ensures) ∙ c .if4 .taken))
 
 returns-5 : tie.Need-returns-5
 unfolding checks firstOf
@@ -33,25 +33,15 @@ returns-5 c = let i4 = c .before .before .before in
     let i3 = i4 .before .before in
     let i2 = i3 .before .before in
     let i1 = i2 .before .before in
-    rw ((i1 .if1 .left), (sym (i2 .before .out-of-range .ensures) ∙ i2 .if2 .left), (sym (i3 .before .is-mixed .ensures) ∙ i3 .if3 .left), (sym (i4 .before .is-later-than .ensures) ∙ i4 .if4 .left), (sym (c .before .are-too-low .ensures ∙ ap (rightsTooLow _) (c .before .before .names-one .ensures)) ∙ c .if5 .taken))
+    λ len. rw ((i1 .if1 .left), (sym (i2 .before .out-of-range .ensures) ∙ i2 .if2 .left), (sym (i3 .before .is-mixed .ensures) ∙ i3 .if3 .left), (sym (i4 .before .is-later-than .ensures) ∙ i4 .if4 .left), (sym (c .before .are-too-low .ensures ∙ ap (rightsTooLow _) (c .before .before .names-one .ensures)) ∙ c .if5 .taken))
 
 returns-6 : tie.Need-returns-6
 unfolding checks firstOf
-returns-6 c = let i5 = c .before .before in
-    let i4 = i5 .before .before .before in
+returns-6 c = let i4 = c .before .before .before in
     let i3 = i4 .before .before in
     let i2 = i3 .before .before in
     let i1 = i2 .before .before in
-    rw ((i1 .if1 .left), (sym (i2 .before .out-of-range .ensures) ∙ i2 .if2 .left), (sym (i3 .before .is-mixed .ensures) ∙ i3 .if3 .left), (sym (i4 .before .is-later-than .ensures) ∙ i4 .if4 .left), (sym (i5 .before .are-too-low .ensures ∙ ap (rightsTooLow _) (i5 .before .before .names-one .ensures)) ∙ i5 .if5 .left), (sym (c .before .is-table-wrong .ensures) ∙ c .if6 .taken))
-
-returns-7 : tie.Need-returns-7
-unfolding checks firstOf
-returns-7 c = let i5 = c .before .before in
-    let i4 = i5 .before .before .before in
-    let i3 = i4 .before .before in
-    let i2 = i3 .before .before in
-    let i1 = i2 .before .before in
-    rw ((i1 .if1 .left), (sym (i2 .before .out-of-range .ensures) ∙ i2 .if2 .left), (sym (i3 .before .is-mixed .ensures) ∙ i3 .if3 .left), (sym (i4 .before .is-later-than .ensures) ∙ i4 .if4 .left), (sym (i5 .before .are-too-low .ensures ∙ ap (rightsTooLow _) (i5 .before .before .names-one .ensures)) ∙ i5 .if5 .left), (sym (c .before .is-table-wrong .ensures) ∙ c .if6 .left))
+    λ len. rw ((i1 .if1 .left), (sym (i2 .before .out-of-range .ensures) ∙ i2 .if2 .left), (sym (i3 .before .is-mixed .ensures) ∙ i3 .if3 .left), (sym (i4 .before .is-later-than .ensures) ∙ i4 .if4 .left), (sym (c .before .are-too-low .ensures ∙ ap (rightsTooLow _) (c .before .before .names-one .ensures)) ∙ c .if5 .left))
 
 pub judge-spec : {M : Type 1} → statement M
 judge-spec = tie.close (tie.spec
@@ -64,6 +54,4 @@ judge-spec = tie.close (tie.spec
     returns-4
     (λ c κs. search needs) (λ c κs. search needs)
     returns-5
-    (λ c κs. search needs)
-    returns-6
-    returns-7)
+    returns-6)

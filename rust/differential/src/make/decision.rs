@@ -117,23 +117,39 @@ fn valid(rng: &mut Rng) -> Question {
         } else {
             codes::RIGHTS_SEED
         },
-        request: request(given, wanted, (!latest).then(|| of_step(named))),
+        request: request(
+            root_code(rng, given),
+            wanted,
+            (!latest).then(|| of_step(named)),
+        ),
         clock,
         table: table(&rows),
     }
 }
 
+/// Whether a root is given, as C has it: every value but 0.
+fn root_code(rng: &mut Rng, given: bool) -> u32 {
+    if given {
+        rng.pick(&[
+            codes::ROOT_GIVEN,
+            codes::ROOT_GIVEN,
+            2,
+            256,
+            1 << 31,
+            u32::MAX,
+        ])
+    } else {
+        codes::ROOT_NONE
+    }
+}
+
 /// A request for this identifier, or for the latest.
-fn request(given: bool, root: Root, named: Option<Identifier>) -> Request {
+fn request(root_given: u32, root: Root, named: Option<Identifier>) -> Request {
     let (l0, l1, l2) = named.map_or((-1, -1, -1), |at| {
         (at.l0 as i32, at.l1 as i32, at.l2 as i32)
     });
     Request {
-        root_given: if given {
-            codes::ROOT_GIVEN
-        } else {
-            codes::ROOT_NONE
-        },
+        root_given,
         l0,
         l1,
         l2,
