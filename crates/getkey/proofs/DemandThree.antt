@@ -14,7 +14,7 @@ use Rattle.gkid.proofs.Times.{reading-in-group, reading-monotone}
 use Rattle.keys.specs.declared.Form.{Form}
 use Rattle.keys.specs.Forms.{seedForm}
 use Rattle.reach.specs.Reached.{ofGroup}
-use Rattle.reach.specs.Reaches.{keysReach, reachNumber}
+use Rattle.reach.specs.Reaches.{reachNumber}
 use Rattle.reach.proofs.ReachLaws.{is-group}
 use Rattle.reach.proofs.SeedLaws.{seed-accepted, seed-bits, seed-total}
 use Rattle.getkey.specs.declared.Rights.{Rights}
@@ -115,7 +115,7 @@ module _ (verdict : Bool) (q : Request) (table : List ℕ) where
       of (named _ g l) not-later = granted-group (q .root) (namedOf q) (gkidAt t) g (reading-in-group t) (sym (l (gkidAt t)) ∙ not-later)
 
   reaches-up-to : (a : Asking) → names q ≡ true → Accepted (answerTo verdict q table a) → ReachesUpTo (namedOf q) (answerTo verdict q table a)
-  unfolding reachedBy keysReach reachNumber outcomeNumber ofGroup
+  unfolding reachedBy reachNumber outcomeNumber ofGroup
   reaches-up-to a one e =
       let n = named-answer (a .rights) (a .clock) one e in
       let at = answerAt (answerTo verdict q table a) in

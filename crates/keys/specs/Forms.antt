@@ -20,7 +20,7 @@ keysOf L2Only = record { l1 = false; l2 = true }
 keysOf Both = record { l1 = true; l2 = true }
 keysOf Public = record { l1 = false; l2 = false }
 
--- seed rights give L1ONLY if L2 = 31, else L2ONLY if L1 = 0, else BOTH
+-- seed rights give L1ONLY if L2 = 31, else L2ONLY if L1 = 0, else BOTH; so told of any indices, those above 31 too
 unfoldable pub seedForm : Gkid → Form
 seedForm at = cond (eqb (at .l2 .0) 31) L1Only (cond (eqb (at .l1 .0) 0) L2Only Both)
 

@@ -63,7 +63,7 @@ fn keys_allowed(
     l1_key_allowed(public, at, l1_length) && l2_key_allowed(public, at, public_length, l2_length)
 }
 
-// Whether keys of these lengths are accepted, or their refusal.
+// Whether the rule accepts keys of these lengths at an identifier, or its refusal, 11; that an index is above 31 is not the rule's to say.
 pub fn judge(
     public: bool,
     at: Gkid,
@@ -111,7 +111,8 @@ impl Form {
     }
 }
 
-// The form that seed rights give at an identifier.
+// The form that seed rights give at an identifier, told by L2 and then L1 whatever they are; where one is above 31, a seed envelope with
+// that form's keys is refused 5.
 pub fn seed_form(at: Gkid) -> Form
     ensures { λ r. ⌜ r ≡ seedForm at ⌝ }
 {

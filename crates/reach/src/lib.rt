@@ -27,7 +27,7 @@ fn of_group(at: Gkid, wanted: Gkid) -> bool
     wanted.l0.0 == at.l0.0 && !wanted.index_above_31()
 }
 
-// The L1 key reaches all of rows 0 to L1 if L2 = 31, else rows 0 to L1-1.
+// The L1 key reaches all of rows 0 to L1 if L2 = 31, else rows 0 to L1-1: of the 32 rows, also where L1 is above 31.
 pub fn l1_reaches(at: Gkid, wanted: Gkid) -> bool
     ensures { λ r. ⌜ r ≡ l1Reaches at wanted ⌝ }
 {
@@ -40,7 +40,7 @@ pub fn l1_reaches(at: Gkid, wanted: Gkid) -> bool
     wanted.l1.0 < at.l1.0
 }
 
-// The L2 key reaches its own L1 row from L2 index 0 to its own.
+// The L2 key reaches its own L1 row from L2 index 0 to its own: of the 32 bits, also where L2 is above 31.
 pub fn l2_reaches(at: Gkid, wanted: Gkid) -> bool
     ensures { λ r. ⌜ r ≡ l2Reaches at wanted ⌝ }
 {

@@ -19,7 +19,7 @@ pub enum SeedKey {
 }
 
 // Whether an envelope serves an identifier: by which key, which stands where.
-pub enum Served {
+enum Served {
     By(SeedKey, Span),
     No,
 }
