@@ -6,7 +6,8 @@
  * and any bytes and numbers get an answer.
  *
  * What the caller owes: a pointer and its length name bytes that may be read for the length of the call (written, for `out`),
- * no other thread changes them meanwhile, and `out` shares no byte with what is handed in beside it. A length of 0 goes with any pointer, NULL too.
+ * no other thread changes them meanwhile, and `out` shares no byte with what is handed in beside it. A length of 0 goes with
+ * any pointer, NULL too.
  *
  * Codes: 0 is none, refused or the weakest; real cases count from 1. A code handed in that is not listed is the weakest one,
  * but for root_given: every value but 0 names a root key. */
@@ -275,7 +276,8 @@ gw_written_answer gw_envelope_write(uint8_t *out, size_t room, gw_head head, con
 /* What an envelope's keys reach: nothing if it is public or keyless. It is refused what gw_envelope_read refuses. */
 gw_reach_answer gw_envelope_reach(const uint8_t *envelope, size_t len);
 
-/* What a form reaches at an identifier: the reach of a seed envelope there with just those keys, refused 5, then 11, as it would be. */
+/* What a form reaches at an identifier: the reach of a seed envelope there with just those keys; refused 5, then 11, as that
+ * would be. */
 gw_reach_answer gw_form_reach(uint32_t form, gw_identifier at);
 
 /* The identifier of a FILETIME reading. */

@@ -98,9 +98,10 @@ pub struct Answer {
 /// Decides a request for a group key: by the verdict on the security descriptor, the caller's
 /// rights, the clock, and the root table.
 ///
-/// A row of the table is 32 bytes, most significant first: the root key identifier (16), the
-/// use-start time (8) and the create time (8). The checks run in this order: verdict, index out
-/// of range, mixed indices, later than now, rights, table length, no suitable root key.
+/// A row of the table is 32 bytes: the root key identifier (16), the use-start time (8) and the
+/// create time (8), times with the most significant byte first. The checks run in this order:
+/// verdict, index out of range, mixed indices, later than now, rights, table length, no suitable
+/// root key.
 ///
 /// ```
 /// use gishwarem::{decide, Answer, FileTime, Form, Gkid, Refusal, Request, Rights, RootId, Row};

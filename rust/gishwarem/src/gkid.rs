@@ -16,9 +16,9 @@ use crate::{calls, raw, FileTime, Refusal};
 pub struct Gkid {
     /// L0 index.
     pub l0: u32,
-    /// L1 index, 0 to 31.
+    /// L1 index; in an answer 0 to 31.
     pub l1: u32,
-    /// L2 index, 0 to 31.
+    /// L2 index; in an answer 0 to 31.
     pub l2: u32,
 }
 

@@ -131,7 +131,7 @@ impl fmt::Debug for ServingKey<'_> {
 }
 
 /// The key that reaches an identifier under a root key: from the cached envelope if that serves,
-/// else from the fetched one.
+/// else from the fetched one, else [`Refusal::NeitherServes`].
 ///
 /// An envelope serves if it is accepted, has that root key and that L0 index, and reaches the
 /// identifier.
