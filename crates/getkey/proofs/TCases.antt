@@ -18,7 +18,8 @@ use Rattle.keys.specs.declared.Form.the-variants as form
 use Rattle.keys.specs.KeyRule.{keysAllowed, l1KeyAllowed, l2KeyAllowed, keyChecks}
 use Rattle.keys.specs.Forms.{keysOf, seedForm, seedChecks}
 use Rattle.reach.specs.Reached.{ofGroup, l1Reaches, l2Reaches, reaches}
-use Rattle.reach.specs.Bits.{bitAt, bit, rowWhere, count, table}
+use Rattle.lemmas.specs.Counting.{bit, count}
+use Rattle.reach.specs.Bits.{bitAt, rowWhere, table}
 use Rattle.reach.specs.Maps.{rowOf, mapOf, emptyMap, totalOf}
 use Rattle.reach.specs.Reaches.{keysReach, refusedReach, formReach, reachTotal}
 use Rattle.getkey.specs.declared.Rights.{Rights}

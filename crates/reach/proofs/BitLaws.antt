@@ -1,9 +1,10 @@
--- Laws of rows of bits and of counting: a bit of a row is what its test says, a row is told by its bits, and a machine's count of
+-- Laws of rows of bits: a bit of a row is what its test says, a row is told by its bits, and a machine's count of
 -- ones is the count of set bits.
 use Rattle.lemmas.proofs.Basics.{ℕ, zero, suc, _+_, _-_, _*_, _/_, _%_, _^_, _≤_, _<_, arith, add-zero, add-suc, pow-suc, pow-succ', div-div-eq-div-mul, div-eq-of-lt, Bool, true, false, [], _∷_, _++_, _≡_, refl, sym, ap, ap₂, _∙_, ltb, leb, eqb, length, getD, length-append, List·getD-append, getD-at, ltb-true, ltb-false, le-leb, eqb-true, eqb-false}
 use lib.Count.{ones, ones-step}
 use Rattle.lemmas.proofs.Cases.{by-cases}
-use Rattle.reach.specs.Bits.{bitAt, bit, rowWhere, count, table}
+use Rattle.lemmas.specs.Counting.{bit, count}
+use Rattle.reach.specs.Bits.{bitAt, rowWhere, table}
 
 bit-below : (b : Bool) → bit b < 2
 unfolding bit
@@ -60,22 +61,11 @@ ones-row (suc n) test =
 pub ones-count : (row : ℕ) → row < 2 ^ 32 → ones row ≡ count 32 (bitAt row)
 ones-count row h = ap ones (sym (row-back row h)) ∙ ones-row 32 (bitAt row)
 
--- Tests that agree below n make the same row and the same count.
+-- Tests that agree below n make the same row.
 pub row-is : (n : ℕ) {f g : ℕ → Bool} → ((k : ℕ) → k < n → f k ≡ g k) → rowWhere n f ≡ rowWhere n g
 unfolding rowWhere
 row-is zero same = refl
 row-is (suc n) same = ap₂ (λ x b. 2 * x + bit b) (row-is n (λ k h. same k (omega arith))) (same n (omega arith))
-
-pub count-is : (n : ℕ) {f g : ℕ → Bool} → ((k : ℕ) → k < n → f k ≡ g k) → count n f ≡ count n g
-unfolding count
-count-is zero same = refl
-count-is (suc n) same = ap₂ (λ x b. x + bit b) (count-is n (λ k h. same k (omega arith))) (same n (omega arith))
-
--- A count in two parts.
-pub count-parts : (a b : ℕ) (test : ℕ → Bool) → count (a + b) test ≡ count a test + count b (λ k. test (a + k))
-unfolding count
-count-parts a zero test = rw (add-zero a) (omega arith)
-count-parts a (suc b) test = rw (add-suc, count-parts a b test) (omega arith)
 
 -- A table has f of k at index k.
 length-table : (n : ℕ) (f : ℕ → ℕ) → length (table n f) ≡ n

@@ -13,7 +13,8 @@ use Rattle.keys.specs.declared.Form.the-variants.{Keyless, Public}
 use Rattle.keys.specs.Forms.{keysOf, seedChecks}
 use Rattle.keys.proofs.FormLaws.{keyless-checks}
 use Rattle.reach.specs.Reached.{reaches}
-use Rattle.reach.specs.Bits.{rowWhere, bit, table, bitAt, count}
+use Rattle.lemmas.specs.Counting.{bit, count}
+use Rattle.reach.specs.Bits.{rowWhere, table, bitAt}
 use Rattle.reach.specs.Maps.{rowOf, mapOf, emptyMap, totalOf}
 use Rattle.reach.specs.Reaches.{mapReach, refusedReach, keysReach, formReach, reachTotal}
 

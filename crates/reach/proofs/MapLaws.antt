@@ -1,14 +1,16 @@
 -- Laws of the map: its bits are what the keys reach, and its total is how many they reach.
 use Rattle.lemmas.proofs.Basics.{ℕ, zero, suc, _+_, _*_, _/_, _%_, _<_, arith, Bool, _&&_, _||_, and-true, and-assoc, List, [], _∷_, _++_, _≡_, refl, sym, ap, ap₂, _∙_, leb, leb·zero, getD, le-ltb}
 use Rattle.lemmas.proofs.Cases.{by-cases}
+use Rattle.lemmas.specs.Counting.{count}
+use Rattle.lemmas.proofs.Counting.{count-is, count-parts}
 use Rattle.gkid.specs.declared.Gkid.{Gkid}
 use Rattle.gkid.specs.Identifier.{gkid, indexAbove31}
 use Rattle.keys.specs.declared.SeedKeys.{SeedKeys}
 use Rattle.reach.specs.Reached.{ofGroup, l1Reaches, l2Reaches, reaches}
-use Rattle.reach.specs.Bits.{bitAt, rowWhere, count, table}
+use Rattle.reach.specs.Bits.{bitAt, rowWhere, table}
 use Rattle.reach.specs.Maps.{rowOf, mapOf, inMap, totalOf}
 use Rattle.reach.proofs.ReachLaws.{group-is, outside}
-use Rattle.reach.proofs.BitLaws.{row-bit, row-is, count-is, count-parts, table-at}
+use Rattle.reach.proofs.BitLaws.{row-bit, row-is, table-at}
 
 -- the identifiers of a row are all of the group, or none is
 same-row : (at : Gkid) (l1 l2 : ℕ) → l2 < 32 → ofGroup at (gkid (at .l0 .0) l1 l2) ≡ ofGroup at (gkid (at .l0 .0) l1 0)

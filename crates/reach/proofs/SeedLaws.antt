@@ -3,6 +3,8 @@
 use Rattle.lemmas.proofs.Basics.{ℕ, zero, suc, _+_, _*_, _<_, min, arith, not, _&&_, _||_, _≡_, refl, sym, ap, _∙_, ltb, leb, eqb, le-ltb, ltb-true, ltb-false, le-leb, lt-leb, leb-true, leb-false, eqb-true, eqb-false}
 use mathlib.Core.Bool.{or-false}
 use Rattle.lemmas.proofs.Cases.{by-cases, leb-same}
+use Rattle.lemmas.specs.Counting.{bit, count}
+use Rattle.lemmas.proofs.Counting.{count-is}
 use Rattle.refusal.specs.Chain.{unlessRefused}
 use Rattle.gkid.specs.declared.Gkid.{Gkid}
 use Rattle.gkid.specs.Identifier.{InGroup, later}
@@ -10,9 +12,7 @@ use Rattle.gkid.proofs.Order.{ordinal, later-ordinal}
 use Rattle.keys.specs.Forms.{keysOf, seedForm}
 use Rattle.keys.proofs.FormLaws.{form-cases, seed-form-accepted}
 use Rattle.reach.specs.Reached.{ofGroup, l1Reaches, l2Reaches, reaches}
-use Rattle.reach.specs.Bits.{bit, count}
 use Rattle.reach.specs.Reaches.{mapReach, keysReach, formReach, reachTotal, reachedIn}
-use Rattle.reach.proofs.BitLaws.{count-is}
 use Rattle.reach.proofs.ReachLaws.{group-is, is-group, outside}
 use Rattle.reach.proofs.MapLaws.{in-map, member, map-total}
 

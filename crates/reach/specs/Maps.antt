@@ -8,7 +8,8 @@ use Rattle.gkid.specs.declared.Gkid.{Gkid}
 use Rattle.gkid.specs.Identifier.{gkid}
 use Rattle.keys.specs.declared.SeedKeys.{SeedKeys}
 use Rattle.reach.specs.Reached.{ofGroup, reaches}
-use Rattle.reach.specs.Bits.{bitAt, rowWhere, count, table}
+use Rattle.lemmas.specs.Counting.{count}
+use Rattle.reach.specs.Bits.{bitAt, rowWhere, table}
 
 -- row L1: the bit at index L2 is set where the keys present reach (L0, L1, L2)
 unfoldable pub rowOf : SeedKeys → Gkid → ℕ → ℕ

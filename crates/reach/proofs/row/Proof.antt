@@ -1,6 +1,7 @@
 -- `row`: the row whole, or up to the L2 key's index, or empty.
 use Rattle.lemmas.proofs.Basics.{true, false, and-false, ⊎-elim, refl, sym, _∙_, needs}
-use Rattle.reach.specs.Bits.{rowWhere, bit}
+use Rattle.lemmas.specs.Counting.{bit}
+use Rattle.reach.specs.Bits.{rowWhere}
 use Rattle.reach.proofs.MapLaws.{row-by}
 use Rattle.reach.proofs.row.Statement.{statement}
 use Rattle.reach.proofs.row.Tie as tie
