@@ -5,7 +5,7 @@ use Rattle.refusal.specs.Chain.{unlessRefused}
 use Rattle.wire.specs.Numbers.{leOf}
 use Rattle.wire.specs.Parts.{leAt, partOf}
 use Rattle.wire.proofs.Parts.{length-part}
-use Rattle.segment.specs.Layout.{unitShift, chunkShift, clusterShift, blockCount, lengthFor}
+use Rattle.segment.specs.Layout.{lengthField, unitShift, chunkShift, clusterShift, blockCount, lengthFor}
 use Rattle.segment.specs.Reading.{segmentOf, segmentNumber}
 use Rattle.segment.specs.WellFormed.{WellFormed}
 use Rattle.segment.proofs.Reading.{accepted-checks, passed, passes, lengths-are, shifts-are, shifts-right}
@@ -75,7 +75,7 @@ well-formed-accepted s w =
     rw (passes s (record {
       limit = le-ltb _ _ (w .limit);
       head = le-ltb _ _ (w .head);
-      lengths = false-or (ap not (eq-eqb _ _ (w .length-is))) (le-ltb _ _ (omega (arith, w .length-is)));
+      lengths = false-or (ap not (eq-eqb _ _ (w .length-is))) (le-ltb (lengthField s) (lengthFor (blockCount s)) (omega (arith, w .length-is)));
       marks = rw (w .zeros, w .one);
       shifts = shifts-right _ _ _ (same-shift _ _ (w .chunk-is)) (w .unit) (w .cluster);
     }))

@@ -1,14 +1,15 @@
 -- Laws of the writer: its bytes as they are put, and what they read as.
-use Rattle.lemmas.proofs.Basics.{ℕ, _+_, _*_, _/_, _%_, _^_, _≤_, _<_, arith, List, [], _∷_, _++_, append-nil, append-assoc, _≡_, refl, sym, ap, _∙_, length, getD, length-append, ltb-false}
+use Rattle.lemmas.proofs.Basics.{ℕ, _+_, _*_, _/_, _%_, _^_, _≤_, _<_, arith, List, [], _∷_, _++_, append-nil, append-assoc, _≡_, refl, sym, ap, _∙_, length, getD, take, length-append, ltb-false}
 use Rattle.refusal.specs.declared.Outcome.the-variants as outcome
 use Rattle.refusal.specs.Chain.{firstOf}
 use Rattle.refusal.proofs.Chains.{accepted-pass}
 use Rattle.wire.specs.Numbers.{leOf, leBytes}
 use Rattle.wire.specs.Parts.{leAt, partOf, joined, le32Bytes}
 use Rattle.wire.proofs.Numbers.{length-leBytes, bytes-back, le-piece}
-use Rattle.wire.proofs.Writing.{length-le32Bytes}
+use Rattle.wire.proofs.Parts.{part-right}
+use Rattle.wire.proofs.Writing.{length-le32Bytes, le32s-read}
 use Rattle.segment.specs.declared.Head.{Head}
-use Rattle.segment.specs.Layout.{lengthFor}
+use Rattle.segment.specs.Layout.{startOffset, lengthField, bytesInStream, bytesInVdl, zeroBytes, unitShift, chunkShift, clusterShift, oneByte, blockCount, sizeAt, lengthFor}
 use Rattle.segment.specs.Writing.{segmentLength, pieces, segmentBytes, writeChecks}
 use Rattle.segment.proofs.Reading.{shifts-are}
 
@@ -36,3 +37,82 @@ fits h sizes e =
     let p = accepted-pass (writeChecks h sizes) e in
     let shifts = shifts-are _ _ _ (p .1 .0) in
     record { limit = ltb-false 65535 _ (p .0); unit = shifts .1; chunk = shifts .0; cluster = shifts .2 }
+
+first-bytes : (unit chunk : ℕ) → unit ≤ 31 → chunk ≤ 31 → leBytes 4 (65536 * unit + 16777216 * chunk) ≡ 0 ∷ 0 ∷ (leBytes 1 unit ++ leBytes 1 chunk)
+unfolding leBytes leOf
+first-bytes unit chunk p q =
+    let sum : 65536 * unit + 16777216 * chunk ≡ leOf (0 ∷ 0 ∷ unit ∷ chunk ∷ []) = omega arith in
+    let low : unit % 256 ≡ unit = omega arith in
+    let high : chunk % 256 ≡ chunk = omega arith in
+    ap (leBytes 4) sum ∙ bytes-back (0 ∷ 0 ∷ unit ∷ chunk ∷ []) (omega arith, (omega arith, (omega arith, (omega arith, tt)))) ∙ rw (low, high)
+
+last-bytes : (cluster blocks : ℕ) → cluster ≤ 31 → blocks ≤ 65535 → leBytes 4 (cluster + 256 + 65536 * blocks) ≡ leBytes 1 cluster ++ (1 ∷ leBytes 2 blocks)
+unfolding leBytes leOf
+last-bytes cluster blocks p q =
+    let sum : cluster + 256 + 65536 * blocks ≡ leOf (cluster ∷ 1 ∷ blocks % 256 ∷ blocks / 256 ∷ []) = omega arith in
+    let low : cluster % 256 ≡ cluster = omega arith in
+    let high : blocks / 256 % 256 ≡ blocks / 256 = omega arith in
+    ap (leBytes 4) sum ∙ bytes-back (cluster ∷ 1 ∷ blocks % 256 ∷ blocks / 256 ∷ []) (omega arith, (omega arith, (omega arith, (omega arith, tt)))) ∙ rw (low, high)
+
+-- The record is its start offset, the numbers of four bytes behind it, and the sizes.
+pub bytes-are : (h : Head) (sizes : List ℕ) → Fits h sizes → segmentBytes h sizes ≡ (leBytes 8 (h .«start_offset») ++ le32Bytes (middle h sizes)) ++ le32Bytes sizes
+unfolding segmentBytes joined leBytes le32Bytes
+bytes-are h sizes f =
+    let front = first-bytes (h .«unit_shift») (h .«chunk_shift») (f .unit) (omega (arith, f .unit, f .chunk)) in
+    let back = last-bytes (h .«cluster_shift») (length sizes) (f .cluster) (omega (arith, f .limit)) in
+    sym (λ i. leBytes 8 (h .«start_offset») ++ (leBytes 4 (segmentLength sizes) ++ (leBytes 4 (h .«bytes_in_stream») ++ (leBytes 4 (h .«bytes_in_vdl») ++ (front i ++ (back i ++ sym (append-nil (le32Bytes sizes)) i))))))
+
+pub length-bytes : (h : Head) (sizes : List ℕ) → length (segmentBytes h sizes) ≡ segmentLength sizes
+unfolding segmentBytes joined leBytes
+length-bytes h sizes = ap (λ n. 28 + n) (ap length (append-nil (le32Bytes sizes)) ∙ length-le32Bytes sizes)
+
+-- The numbers that are given are as wide as their fields, but for the shifts.
+pub record Wide (h : Head) (sizes : List ℕ) : Type 0 where
+  pub start : h .«start_offset» < 2 ^ 64
+  pub stream : h .«bytes_in_stream» < 2 ^ 32
+  pub vdl : h .«bytes_in_vdl» < 2 ^ 32
+  pub each : (k : ℕ) → k < length sizes → getD sizes k 0 < 2 ^ 32
+
+-- What the numbers read as, where the record is within the limit and each shift is a byte.
+module _ (h : Head) (sizes : List ℕ) (limit : segmentLength sizes ≤ 65535) where
+  is-length : lengthField (segmentBytes h sizes) ≡ segmentLength sizes
+  unfolding segmentBytes joined leBytes
+  is-length = le-piece 4 (pieces h sizes) 1 (segmentLength sizes) 8 refl (omega arith) refl
+
+  is-marks : (zeroBytes (segmentBytes h sizes) ≡ 0) × (oneByte (segmentBytes h sizes) ≡ 1)
+  unfolding segmentBytes joined leBytes
+  is-marks = (le-piece 2 (pieces h sizes) 4 0 20 refl (omega arith) refl, le-piece 1 (pieces h sizes) 8 1 25 refl (omega arith) refl)
+
+  is-unit : h .«unit_shift» < 256 → unitShift (segmentBytes h sizes) ≡ h .«unit_shift»
+  unfolding segmentBytes joined leBytes
+  is-unit small = le-piece 1 (pieces h sizes) 5 _ 22 refl small refl
+
+  is-chunk : h .«chunk_shift» < 256 → chunkShift (segmentBytes h sizes) ≡ h .«chunk_shift»
+  unfolding segmentBytes joined leBytes
+  is-chunk small = le-piece 1 (pieces h sizes) 6 _ 23 refl small refl
+
+  is-cluster : h .«cluster_shift» < 256 → clusterShift (segmentBytes h sizes) ≡ h .«cluster_shift»
+  unfolding segmentBytes joined leBytes
+  is-cluster small = le-piece 1 (pieces h sizes) 7 _ 24 refl small refl
+
+  is-count : blockCount (segmentBytes h sizes) ≡ length sizes
+  unfolding segmentBytes joined leBytes
+  is-count = le-piece 2 (pieces h sizes) 9 (length sizes) 26 refl (omega arith) refl
+
+  is-start : h .«start_offset» < 2 ^ 64 → startOffset (segmentBytes h sizes) ≡ h .«start_offset»
+  unfolding segmentBytes joined leBytes
+  is-start small = le-piece 8 (pieces h sizes) 0 _ 0 refl small refl
+
+  is-stream : h .«bytes_in_stream» < 2 ^ 32 → bytesInStream (segmentBytes h sizes) ≡ h .«bytes_in_stream»
+  unfolding segmentBytes joined leBytes
+  is-stream small = le-piece 4 (pieces h sizes) 2 _ 12 refl small refl
+
+  is-vdl : h .«bytes_in_vdl» < 2 ^ 32 → bytesInVdl (segmentBytes h sizes) ≡ h .«bytes_in_vdl»
+  unfolding segmentBytes joined leBytes
+  is-vdl small = le-piece 4 (pieces h sizes) 3 _ 16 refl small refl
+
+  pub is-size : (k : ℕ) → k < length sizes → getD sizes k 0 < 2 ^ 32 → sizeAt (segmentBytes h sizes) k ≡ getD sizes k 0
+  unfolding sizeAt leAt segmentBytes joined leBytes
+  is-size k inside small =
+      ap leOf (part-right (joined (take 10 (pieces h sizes))) (le32Bytes sizes ++ []) (4 * k) 4 ∙ ap (λ t. partOf t (4 * k) 4) (append-nil (le32Bytes sizes)))
+      ∙ le32s-read sizes k inside small

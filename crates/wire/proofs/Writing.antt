@@ -1,11 +1,11 @@
 -- Laws of bytes put into a lent part.
-use Rattle.lemmas.proofs.Basics.{ℕ, zero, suc, _+_, _-_, _*_, _≤_, _<_, arith, List, [], _∷_, _++_, map, append-nil, append-assoc, _≡_, refl, sym, ap, _∙_, leb, length, getD, take, drop, length-append, length-drop, drop-of-length-le, length-take-le, take-at, drop-at, drop-drop, le-leb, lt-leb, leb-true, leb-false}
+use Rattle.lemmas.proofs.Basics.{ℕ, zero, suc, _+_, _-_, _*_, _^_, _≤_, _<_, arith, List, [], _∷_, _++_, map, append-nil, append-assoc, _≡_, refl, sym, ap, ap₂, _∙_, leb, length, getD, take, drop, length-append, length-drop, drop-of-length-le, length-take-le, take-at, drop-at, drop-drop, le-leb, lt-leb, leb-true, leb-false}
 use borrow.Rule.Slice.PartMut.{midOf, putMid}
 use Rattle.lemmas.proofs.Cases.{by-cases}
-use Rattle.wire.specs.Numbers.{leBytes}
-use Rattle.wire.specs.Parts.{onto, joined, le32Bytes}
-use Rattle.wire.proofs.Numbers.{length-leBytes}
-use Rattle.wire.proofs.Parts.{joined-append}
+use Rattle.wire.specs.Numbers.{leOf, leBytes}
+use Rattle.wire.specs.Parts.{partOf, leAt, onto, joined, le32Bytes}
+use Rattle.wire.proofs.Numbers.{Bytes, places, length-leBytes, le-back, le-part-back}
+use Rattle.wire.proofs.Parts.{part-empty, part-piece, part-right, part-next, joined-append}
 
 pub onto-in : (bs s : List ℕ) → length bs ≤ length s → onto bs s ≡ bs ++ drop (length bs) s
 unfolding onto
@@ -95,3 +95,23 @@ pub length-joined : (pieces : List (List ℕ)) → length (joined pieces) ≡ si
 unfolding joined
 length-joined [] = refl
 length-joined (piece ∷ pieces) = length-append piece (joined pieces) ∙ ap (λ n. length piece + n) (length-joined pieces)
+
+-- Numbers one after the other, read back by their places; and read from bytes by their places, and stored, they give the bytes.
+pub le32s-read : (xs : List ℕ) (k : ℕ) → k < length xs → getD xs k 0 < 256 ^ 4 → leAt 4 (le32Bytes xs) (4 * k) ≡ getD xs k 0
+unfolding le32Bytes joined leAt leBytes
+le32s-read [] k h small = absurd (omega arith)
+le32s-read (x ∷ xs) zero h small = ap leOf (part-piece [] (leBytes 4 x) (le32Bytes xs) 0 4 refl refl) ∙ le-back 4 x small
+le32s-read (x ∷ xs) (suc k) h small =
+    let next : 4 * suc k ≡ 4 + 4 * k = omega arith in
+    ap (λ n. leOf (partOf (le32Bytes (x ∷ xs)) n 4)) next ∙ ap leOf (part-right (leBytes 4 x) (le32Bytes xs) (4 * k) 4) ∙ le32s-read xs k (omega arith) small
+
+pub le32s-back : (n : ℕ) (s : List ℕ) (at : ℕ) → Bytes s → at + 4 * n ≤ length s → le32Bytes (places n (λ k. leAt 4 s (at + 4 * k))) ≡ partOf s at (4 * n)
+unfolding le32Bytes joined
+le32s-back zero s at b h = sym (part-empty s at)
+le32s-back (suc n) s at b h =
+    let here : at + 4 * 0 ≡ at = omega arith in
+    let later : (k : ℕ) → at + 4 * suc k ≡ at + 4 + 4 * k = λ k. omega arith in
+    let sum : 4 + 4 * n ≡ 4 * suc n = omega arith in
+    (λ i. leBytes 4 (leAt 4 s (here i)) ++ le32Bytes (places n (λ k. leAt 4 s (later k i))))
+    ∙ ap₂ _++_ (le-part-back 4 s at b (omega arith)) (le32s-back n s (at + 4) b (omega arith))
+    ∙ part-next s at 4 (4 * n) (omega arith) ∙ ap (partOf s at) sum
