@@ -41,6 +41,26 @@ fn joined64(low: u32, high: u32) -> u64
     low as u64 + 4294967296 * (high as u64)
 }
 
+// The byte at `at`, or 0 where it does not lie inside.
+pub fn byte_at(s: &[u8], at: usize) -> u8
+    ensures { λ r. ⌜ r ≡ leAt 1 (now (s .entry)) at ⌝ }
+{
+    let b = part(s, Span { at, len: 1 });
+    if b.len() == 1 { b[0] } else { 0 }
+}
+
+// The little-endian u16 at `at`, or 0 where it does not lie wholly inside.
+pub fn le16_at(s: &[u8], at: usize) -> u16
+    ensures { λ r. ⌜ r ≡ leAt 2 (now (s .entry)) at ⌝ }
+{
+    let b = part(s, Span { at, len: 2 });
+    if b.len() == 2 {
+        b[0] as u16 + 256 * (b[1] as u16)
+    } else {
+        0
+    }
+}
+
 // The little-endian u32 at `at`, or 0 where it does not lie wholly inside.
 pub fn le32_at(s: &[u8], at: usize) -> u32
     ensures { λ r. ⌜ r ≡ leAt 4 (now (s .entry)) at ⌝ }
