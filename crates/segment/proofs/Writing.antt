@@ -7,7 +7,7 @@ use Rattle.wire.specs.Numbers.{leOf, leBytes}
 use Rattle.wire.specs.Parts.{leAt, partOf, joined, le32Bytes}
 use Rattle.wire.proofs.Numbers.{length-leBytes, bytes-back, le-piece}
 use Rattle.wire.proofs.Parts.{part-right}
-use Rattle.wire.proofs.Writing.{length-le32Bytes, le32s-read}
+use Rattle.wire.proofs.Writing.{length-joined, length-le32Bytes, le32s-read}
 use Rattle.segment.specs.declared.Head.{Head}
 use Rattle.segment.specs.Layout.{startOffset, lengthField, bytesInStream, bytesInVdl, zeroBytes, unitShift, chunkShift, clusterShift, oneByte, blockCount, sizeAt, lengthFor}
 use Rattle.segment.specs.Writing.{segmentLength, pieces, segmentBytes, writeChecks}
@@ -63,8 +63,8 @@ bytes-are h sizes f =
     sym (λ i. leBytes 8 (h .«start_offset») ++ (leBytes 4 (segmentLength sizes) ++ (leBytes 4 (h .«bytes_in_stream») ++ (leBytes 4 (h .«bytes_in_vdl») ++ (front i ++ (back i ++ sym (append-nil (le32Bytes sizes)) i))))))
 
 pub length-bytes : (h : Head) (sizes : List ℕ) → length (segmentBytes h sizes) ≡ segmentLength sizes
-unfolding segmentBytes joined leBytes
-length-bytes h sizes = ap (λ n. 28 + n) (ap length (append-nil (le32Bytes sizes)) ∙ length-le32Bytes sizes)
+unfolding segmentBytes leBytes
+length-bytes h sizes = length-joined (pieces h sizes) ∙ omega (arith, length-le32Bytes sizes)
 
 -- The numbers that are given are as wide as their fields, but for the shifts.
 pub record Wide (h : Head) (sizes : List ℕ) : Type 0 where
