@@ -1,3 +1,4 @@
 pub mod Reading
 pub mod ExactlyWhen
+pub mod Blocks
 pub mod Writing

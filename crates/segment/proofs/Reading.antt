@@ -59,11 +59,15 @@ pub shifts-right : (unit chunk cluster : ℕ) → chunk ≡ unit → unit ≤ 31
 unfolding shiftsWrong
 shifts-right unit chunk cluster same unit-fits cluster-fits = rw (same, eq-eqb unit unit refl, le-ltb 31 unit unit-fits, le-ltb 31 cluster cluster-fits)
 
+-- What an accepted header says of what is shown: the data unit is a number of 32 bits, and the sizes lie inside.
+pub accepted-fits : (s : List ℕ) → firstOf (segmentChecks s) ≡ outcome.Accepted → (unitShift s ≤ 31) × (lengthFor (blockCount s) ≤ length s)
+accepted-fits s e = let p = passed s e in (shifts-are _ _ _ (p .shifts) .1, lengths-are _ _ _ (p .lengths) .1)
+
 -- The sizes lie inside the header.
 pub part-inside : (s : List ℕ) → segmentSpan s .at + segmentSpan s .len ≤ length s
 unfolding segmentOf unlessRefused segmentValues shown
 part-inside s = told (firstOf (segmentChecks s)) refl
   where
     told : (o : Outcome) → firstOf (segmentChecks s) ≡ o → segmentSpan s .at + segmentSpan s .len ≤ length s
-    told outcome.Accepted e = rw e (lengths-are _ _ _ (passed s e .lengths) .1)
+    told outcome.Accepted e = rw e (accepted-fits s e .1)
     told (outcome.Refused r) e = rw e (omega arith)
