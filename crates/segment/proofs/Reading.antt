@@ -1,12 +1,11 @@
 -- Laws of the reader's answer.
-use Rattle.lemmas.proofs.Basics.{ℕ, _+_, _*_, _≤_, arith, false, not, List, _≡_, refl, sym, ap, _∙_, ltb, eqb, length, le-ltb, ltb-false, eq-eqb, eqb-true}
+use Rattle.lemmas.proofs.Basics.{ℕ, _+_, _≤_, arith, false, List, _≡_, refl, ltb, length, le-ltb, ltb-false, eq-eqb, eqb-true}
 use Rattle.lemmas.proofs.Cases.{or-false, not-false}
 use Rattle.refusal.specs.declared.Outcome.{Outcome}
 use Rattle.refusal.specs.declared.Outcome.the-variants as outcome
 use Rattle.refusal.specs.Chain.{firstOf, unlessRefused}
 use Rattle.refusal.proofs.Chains.{accepted-pass, pass-accepted, unless-zero}
 use Rattle.segment.specs.declared.Segment.{Segment}
-use Rattle.segment.specs.declared.SegmentRead.{SegmentRead}
 use Rattle.segment.specs.declared.SegmentRead.the-variants.{Accepted, Refused}
 use Rattle.segment.specs.Layout.{lengthField, zeroBytes, unitShift, chunkShift, clusterShift, oneByte, blockCount, lengthFor, lengthsDisagree, marksWrong, shiftsWrong}
 use Rattle.segment.specs.Reading.{segmentChecks, shown, segmentOf, segmentNumber, segmentValues, segmentSpan}
@@ -15,6 +14,15 @@ use Rattle.segment.specs.Reading.{segmentChecks, shown, segmentOf, segme
 pub segment-judged : (s : List ℕ) {o : Outcome} {t : Segment} → o ≡ firstOf (segmentChecks s) → t ≡ shown s → segmentOf s ≡ unlessRefused Refused o (Accepted t)
 unfolding segmentOf
 segment-judged s judged is-shown = rw (judged, is-shown)
+
+-- What an accepted answer tells: no check applies, and it is what is shown.
+pub accepted-shown : (s : List ℕ) (t : Segment) → segmentOf s ≡ Accepted t → (firstOf (segmentChecks s) ≡ outcome.Accepted) × (t ≡ shown s)
+unfolding segmentOf unlessRefused
+accepted-shown s t = told (firstOf (segmentChecks s))
+  where
+    told : (o : Outcome) → unlessRefused Refused o (Accepted (shown s)) ≡ Accepted t → (o ≡ outcome.Accepted) × (t ≡ shown s)
+    told outcome.Accepted h = (refl, cc)
+    told (outcome.Refused r) h = let z : _≡_ {A = ℕ} 0 1 = cc in absurd (omega arith)
 
 -- An accepted header: no check applies.
 pub accepted-checks : (s : List ℕ) → segmentNumber (segmentOf s) ≡ 0 → firstOf (segmentChecks s) ≡ outcome.Accepted

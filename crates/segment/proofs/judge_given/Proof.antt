@@ -1,5 +1,5 @@
 -- `judge_given`: 1, then 25.
-use Rattle.lemmas.proofs.Basics.{_≤_, _<_, arith, sym, _∙_, length, needs, lt-ltb, le-ltb}
+use Rattle.lemmas.proofs.Basics.{_≤_, _<_, arith, sym, _∙_, needs, lt-ltb, le-ltb}
 use Rattle.refusal.specs.Chain.{firstOf}
 use Rattle.segment.specs.Writing.{segmentLength, writeChecks}
 use Rattle.segment.proofs.judge_given.Statement.{statement}
