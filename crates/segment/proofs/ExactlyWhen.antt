@@ -1,11 +1,11 @@
 -- A header is accepted exactly when it is well formed, as MS-EFSR 2.2.3.3 states it, narrowed by document 02.
-use Rattle.lemmas.proofs.Basics.{ℕ, zero, suc, _+_, _-_, _*_, _^_, _≤_, _<_, arith, pow-suc, pow-le-pow-right, Bool, false, not, List, [], _∷_, _⊎_, inl, inr, ⊎-elim, _≡_, refl, sym, ap, _∙_, ltb, eqb, length, le-ltb, ltb-true, ltb-false, eq-eqb, eqb-true}
+use Rattle.lemmas.proofs.Basics.{ℕ, zero, suc, _+_, _*_, _^_, _≤_, _<_, arith, pow-suc, pow-le-pow-right, not, List, [], _∷_, _≡_, ap, ltb, length, le-ltb, ltb-true, ltb-false, eq-eqb, eqb-true}
 use Rattle.lemmas.proofs.Cases.{by-cases, or-false, false-or, not-false}
 use Rattle.refusal.specs.Chain.{unlessRefused}
 use Rattle.wire.specs.Numbers.{leOf}
-use Rattle.wire.specs.Parts.{leAt, partOf}
+use Rattle.wire.specs.Parts.{leAt}
 use Rattle.wire.proofs.Parts.{length-part}
-use Rattle.segment.specs.Layout.{lengthField, unitShift, chunkShift, clusterShift, blockCount, lengthFor}
+use Rattle.segment.specs.Layout.{lengthField, blockCount, lengthFor}
 use Rattle.segment.specs.Reading.{segmentOf, segmentNumber}
 use Rattle.segment.specs.WellFormed.{WellFormed}
 use Rattle.segment.proofs.Reading.{accepted-checks, passed, passes, lengths-are, shifts-are, shifts-right}

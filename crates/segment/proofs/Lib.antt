@@ -1,3 +1,5 @@
 pub mod Reading
 pub mod ExactlyWhen
+pub mod Blocks
 pub mod Writing
+pub mod ReadBack

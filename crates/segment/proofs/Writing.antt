@@ -1,15 +1,17 @@
 -- Laws of the writer: its bytes as they are put, and what they read as.
-use Rattle.lemmas.proofs.Basics.{ℕ, _+_, _*_, _/_, _%_, _^_, _≤_, _<_, arith, List, [], _∷_, _++_, append-nil, append-assoc, _≡_, refl, sym, ap, _∙_, length, getD, take, length-append, ltb-false}
+use Rattle.lemmas.proofs.Basics.{ℕ, _+_, _*_, _/_, _%_, _^_, _≤_, _<_, arith, not, List, [], _∷_, _++_, append-nil, _≡_, refl, sym, ap, _∙_, length, getD, take, le-ltb, ltb-false, eq-eqb}
 use Rattle.refusal.specs.declared.Outcome.the-variants as outcome
 use Rattle.refusal.specs.Chain.{firstOf}
-use Rattle.refusal.proofs.Chains.{accepted-pass}
+use Rattle.lemmas.proofs.Cases.{false-or}
+use Rattle.refusal.proofs.Chains.{accepted-pass, first-next, first-after}
 use Rattle.wire.specs.Numbers.{leOf, leBytes}
 use Rattle.wire.specs.Parts.{leAt, partOf, joined, le32Bytes}
-use Rattle.wire.proofs.Numbers.{length-leBytes, bytes-back, le-piece}
+use Rattle.wire.proofs.Numbers.{bytes-back, le-piece}
 use Rattle.wire.proofs.Parts.{part-right}
 use Rattle.wire.proofs.Writing.{length-joined, length-le32Bytes, le32s-read}
 use Rattle.segment.specs.declared.Head.{Head}
-use Rattle.segment.specs.Layout.{startOffset, lengthField, bytesInStream, bytesInVdl, zeroBytes, unitShift, chunkShift, clusterShift, oneByte, blockCount, sizeAt, lengthFor}
+use Rattle.segment.specs.Layout.{startOffset, lengthField, bytesInStream, bytesInVdl, zeroBytes, unitShift, chunkShift, clusterShift, oneByte, blockCount, sizeAt, headOf}
+use Rattle.segment.specs.Reading.{segmentChecks}
 use Rattle.segment.specs.Writing.{segmentLength, pieces, segmentBytes, writeChecks}
 use Rattle.segment.proofs.Reading.{shifts-are}
 
@@ -75,7 +77,7 @@ pub record Wide (h : Head) (sizes : List ℕ) : Type 0 where
 
 -- What the numbers read as, where the record is within the limit and each shift is a byte.
 module _ (h : Head) (sizes : List ℕ) (limit : segmentLength sizes ≤ 65535) where
-  is-length : lengthField (segmentBytes h sizes) ≡ segmentLength sizes
+  pub is-length : lengthField (segmentBytes h sizes) ≡ segmentLength sizes
   unfolding segmentBytes joined leBytes
   is-length = le-piece 4 (pieces h sizes) 1 (segmentLength sizes) 8 refl (omega arith) refl
 
@@ -83,7 +85,7 @@ module _ (h : Head) (sizes : List ℕ) (limit : segmentLength sizes ≤ 65535) w
   unfolding segmentBytes joined leBytes
   is-marks = (le-piece 2 (pieces h sizes) 4 0 20 refl (omega arith) refl, le-piece 1 (pieces h sizes) 8 1 25 refl (omega arith) refl)
 
-  is-unit : h .«unit_shift» < 256 → unitShift (segmentBytes h sizes) ≡ h .«unit_shift»
+  pub is-unit : h .«unit_shift» < 256 → unitShift (segmentBytes h sizes) ≡ h .«unit_shift»
   unfolding segmentBytes joined leBytes
   is-unit small = le-piece 1 (pieces h sizes) 5 _ 22 refl small refl
 
@@ -95,7 +97,7 @@ module _ (h : Head) (sizes : List ℕ) (limit : segmentLength sizes ≤ 65535) w
   unfolding segmentBytes joined leBytes
   is-cluster small = le-piece 1 (pieces h sizes) 7 _ 24 refl small refl
 
-  is-count : blockCount (segmentBytes h sizes) ≡ length sizes
+  pub is-count : blockCount (segmentBytes h sizes) ≡ length sizes
   unfolding segmentBytes joined leBytes
   is-count = le-piece 2 (pieces h sizes) 9 (length sizes) 26 refl (omega arith) refl
 
@@ -116,3 +118,27 @@ module _ (h : Head) (sizes : List ℕ) (limit : segmentLength sizes ≤ 65535) w
   is-size k inside small =
       ap leOf (part-right (joined (take 10 (pieces h sizes))) (le32Bytes sizes ++ []) (4 * k) 4 ∙ ap (λ t. partOf t (4 * k) 4) (append-nil (le32Bytes sizes)))
       ∙ le32s-read sizes k inside small
+
+-- The head reads back as given.
+pub is-head : (h : Head) (sizes : List ℕ) → Fits h sizes → Wide h sizes → headOf (segmentBytes h sizes) ≡ h
+unfolding headOf
+is-head h sizes f wide = λ i. record {
+  «start_offset» = is-start h sizes (f .limit) (wide .start) i;
+  «bytes_in_stream» = is-stream h sizes (f .limit) (wide .stream) i;
+  «bytes_in_vdl» = is-vdl h sizes (f .limit) (wide .vdl) i;
+  «unit_shift» = is-unit h sizes (f .limit) (omega (arith, f .unit)) i;
+  «chunk_shift» = is-chunk h sizes (f .limit) (omega (arith, f .unit, f .chunk)) i;
+  «cluster_shift» = is-cluster h sizes (f .limit) (omega (arith, f .cluster)) i;
+}
+
+-- Where each shift is a byte, the writer refuses what the reader would refuse of the bytes, by the same number.
+pub as-read : (h : Head) (sizes : List ℕ) → h .«unit_shift» < 256 → h .«chunk_shift» < 256 → h .«cluster_shift» < 256
+    → firstOf (writeChecks h sizes) ≡ firstOf (segmentChecks (segmentBytes h sizes))
+unfolding writeChecks segmentChecks
+as-read h sizes unit chunk cluster =
+    rw (length-bytes h sizes) (first-after _ _ _ _ (λ q. let limit = ltb-false 65535 (segmentLength sizes) q in
+    let marks = is-marks h sizes limit in
+    rw (is-length h sizes limit, is-count h sizes limit, marks .0, marks .1, is-unit h sizes limit unit, is-chunk h sizes limit chunk, is-cluster h sizes limit cluster)
+    (sym (first-next _ _ _ (le-ltb (segmentLength sizes) 28 (omega arith))
+    ∙ first-next _ _ _ (false-or (ap not (eq-eqb (segmentLength sizes) _ refl)) (le-ltb (segmentLength sizes) (segmentLength sizes) (omega arith)))
+    ∙ first-next _ _ _ refl))))

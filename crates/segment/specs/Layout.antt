@@ -1,6 +1,6 @@
 -- Document 02, No. 1 (MS-EFSR 2.2.3.3): the numbers of a data segment's header, the rules that are made of them, and the sizes of its
 -- blocks. Sums are whole numbers.
-use Prim.Native.Nat.{ℕ, _+_, _*_, _^_}
+use Prim.Native.Nat.{ℕ, _+_, _*_}
 use mathlib.Core.Bool.{Bool, not, _||_}
 use mathlib.Core.List.{List}
 use lib.Dec.{ltb, eqb}
@@ -72,6 +72,6 @@ marksWrong zeros one = not (eqb zeros 0) || not (eqb one 1)
 unfoldable pub shiftsWrong : ℕ → ℕ → ℕ → Bool
 shiftsWrong unit chunk cluster = not (eqb chunk unit) || ltb 31 unit || ltb 31 chunk || ltb 31 cluster
 
--- how many of n blocks are larger than the data unit, 2 to the unit shift: strictly, by the size of each
-abbrev pub largerBlocks : ℕ → ℕ → (ℕ → ℕ) → ℕ
-largerBlocks shift n size = count n (λ k. ltb (2 ^ shift) (size k))
+-- how many of n blocks are larger than a unit: strictly, by the size of each
+abbrev pub largerThan : ℕ → ℕ → (ℕ → ℕ) → ℕ
+largerThan unit n size = count n (λ k. ltb unit (size k))

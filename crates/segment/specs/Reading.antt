@@ -1,5 +1,5 @@
 -- Document 02, No. 1: what the reader answers.
-use Prim.Native.Nat.{ℕ, _*_}
+use Prim.Native.Nat.{ℕ, _*_, _^_}
 use mathlib.Core.Bool.{cond}
 use mathlib.Core.List.{List, [], _∷_}
 use lib.Dec.{ltb}
@@ -15,7 +15,7 @@ use Rattle.segment.specs.declared.SegmentRead.{SegmentRead}
 use Rattle.segment.specs.declared.SegmentRead.the-variants.{Accepted, Refused}
 use Rattle.segment.specs.declared.SizeRead.{SizeRead}
 use Rattle.segment.specs.declared.SizeRead.the-variants as size
-use Rattle.segment.specs.Layout.{lengthField, zeroBytes, unitShift, chunkShift, clusterShift, oneByte, blockCount, sizeAt, headOf, lengthsDisagree, marksWrong, shiftsWrong, largerBlocks}
+use Rattle.segment.specs.Layout.{lengthField, zeroBytes, unitShift, chunkShift, clusterShift, oneByte, blockCount, sizeAt, headOf, lengthsDisagree, marksWrong, shiftsWrong, largerThan}
 
 unfoldable pub segmentChecks : List ℕ → List Check
 segmentChecks s =
@@ -30,7 +30,8 @@ segmentChecks s =
     ∷ (shiftsWrong (unitShift s) (chunkShift s) (clusterShift s) ⇒ WrongShifts)
     ∷ []
 
--- the head's numbers, the place of the sizes, and how many blocks are larger than the data unit; bytes after the sizes are ignored
+-- the head's numbers, the place of the sizes, and how many blocks are larger than the data unit, 2 to the unit shift; bytes after
+-- the sizes are ignored
 unfoldable pub shown : List ℕ → Segment
 shown s =
     record {
@@ -38,7 +39,7 @@ shown s =
       length = lengthField s;
       blocks = blockCount s;
       sizes = record { at = 28; len = 4 * blockCount s };
-      larger = largerBlocks (unitShift s) (blockCount s) (sizeAt s);
+      larger = largerThan (2 ^ unitShift s) (blockCount s) (sizeAt s);
     }
 
 -- what the reader answers

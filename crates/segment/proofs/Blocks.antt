@@ -1,0 +1,48 @@
+-- Laws of the blocks: a size read from its own four bytes, one block more that is counted, and the count by the sizes as they are asked for.
+use Rattle.lemmas.proofs.Basics.{ℕ, _+_, _-_, _*_, _^_, _≤_, _<_, arith, add-zero, add-one, add-sub-cancel-left, Bool, false, List, _≡_, sym, ap, _∙_, ltb, length, take, drop, lt-ltb, le-ltb}
+use Rattle.lemmas.specs.Counting.{bit, count}
+use Rattle.lemmas.proofs.Counting.{count-is, count-parts, count-none}
+use Rattle.refusal.specs.Chain.{unlessRefused}
+use Rattle.wire.specs.Numbers.{leOf}
+use Rattle.wire.specs.Parts.{leAt, partOf}
+use Rattle.wire.proofs.Parts.{part-in, part-within}
+use Rattle.segment.specs.declared.Segment.{Segment}
+use Rattle.segment.specs.declared.SegmentRead.the-variants.{Accepted}
+use Rattle.segment.specs.declared.SizeRead.{SizeRead}
+use Rattle.segment.specs.declared.SizeRead.the-variants as size
+use Rattle.segment.specs.Layout.{unitShift, blockCount, sizeAt, headOf, largerThan}
+use Rattle.segment.specs.Reading.{shown, segmentOf, sizeOf}
+use Rattle.segment.proofs.Reading.{accepted-shown}
+
+pub size-in : (s : List ℕ) (k : ℕ) → 28 + 4 * k + 4 ≤ length s → leAt 4 (take (28 + 4 * k + 4 - (28 + 4 * k)) (drop (28 + 4 * k) s)) 0 ≡ sizeAt s k
+unfolding leAt sizeAt
+size-in s k inside =
+    let bytes : take (28 + 4 * k + 4 - (28 + 4 * k)) (drop (28 + 4 * k) s) ≡ partOf s (28 + 4 * k) 4 = rw add-sub-cancel-left (sym (part-in s (28 + 4 * k) 4 inside)) in
+    ap (λ t. leOf (partOf t 0 4)) bytes ∙ ap leOf (part-within s (28 + 4 * k) 4 0 4 inside (omega arith) ∙ rw add-zero)
+
+pub one-larger : (unit k : ℕ) (size : ℕ → ℕ) {x : ℕ} → x ≡ size k → unit < x → largerThan unit k size + 1 ≡ largerThan unit (k + 1) size
+unfolding count bit
+one-larger unit k size is more = rw (add-one k, ← is, lt-ltb unit _ more)
+
+pub not-larger : (unit k : ℕ) (size : ℕ → ℕ) {x : ℕ} → x ≡ size k → x ≤ unit → largerThan unit k size ≡ largerThan unit (k + 1) size
+unfolding count bit
+not-larger unit k size is less = rw (add-one k, ← is, le-ltb unit _ less) (omega arith)
+
+-- whether the size of a block, as it is asked for, is larger than the data unit
+unfoldable pub isLarger : ℕ → SizeRead → Bool
+isLarger unit (size.Size n) = ltb unit n
+isLarger unit size.None = false
+isLarger unit (size.Refused r) = false
+
+-- The larger blocks that an accepted header shows are counted by the sizes as they are asked for, at every index from 0 on.
+pub larger-asked : (s : List ℕ) (t : Segment) → segmentOf s ≡ Accepted t → (more : ℕ)
+    → t .larger ≡ count (t .blocks + more) (λ k. isLarger (2 ^ t .head .«unit_shift») (sizeOf s k))
+unfolding sizeOf unlessRefused isLarger shown headOf
+larger-asked s t e more =
+    let told = accepted-shown s t e in
+    let n = blockCount s in
+    let unit = 2 ^ unitShift s in
+    let asked : ℕ → Bool = λ k. isLarger unit (sizeOf s k) in
+    let inside : largerThan unit n (sizeAt s) ≡ count n asked = count-is n (λ k h. rw (told .0, lt-ltb k n h)) in
+    let beyond : count more (λ k. asked (n + k)) ≡ 0 = count-none more (λ k. rw (told .0, le-ltb (n + k) n (omega arith))) in
+    rw (told .1) (inside ∙ sym (count-parts n more asked ∙ omega (arith, beyond)))
