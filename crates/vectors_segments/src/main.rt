@@ -19,11 +19,12 @@ fn main() {
     writer::run();
 }
 
-// The numbers before them: the start offset 4,294,967,298, Length, 3 bytes in the stream and 4 in the VDL.
+// The numbers in front of those bytes: the start offset 4,294,967,298, Length, 3 bytes in the stream and 4 in the VDL.
 fn front(length: u32) -> [u32; 5] {
     [2, 1, length, 3, 4]
 }
 
+// A header, with its sizes from 28 on.
 fn put(s: &mut [u8], front: [u32; 5], fixed: [u8; 8], sizes: &[u32]) {
     cases::numbers(s, 0, &front);
     cases::bytes(s, 20, &fixed);

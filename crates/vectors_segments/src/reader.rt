@@ -22,26 +22,26 @@ pub fn run() {
 }
 
 fn accepted() {
-    sound(
+    whole(
         b"segment: no block: ",
         28,
         [0, 0, 12, 12, 9, 1, 0, 0],
         [0; 3],
     );
-    sound(b"segment: 4096, 4097 and 0: ", 40, THREE, [4096, 4097, 0]);
-    sound(
+    whole(b"segment: 4096, 4097 and 0: ", 40, THREE, [4096, 4097, 0]);
+    whole(
         b"segment: shifts of 31: ",
         36,
         [0, 0, 31, 31, 31, 1, 2, 0],
         [2_147_483_648, 2_147_483_649, 0],
     );
-    sound(
+    whole(
         b"segment: shifts of 0: ",
         40,
         [0, 0, 0, 0, 0, 1, 3, 0],
         [0, 1, 2],
     );
-    sound(
+    whole(
         b"segment: all larger: ",
         40,
         [0, 0, 9, 9, 12, 1, 3, 0],
@@ -64,19 +64,19 @@ fn accepted() {
 
 // What stands behind the sizes is no size.
 fn behind() {
-    sound(
+    whole(
         b"segment: a byte behind: ",
         33,
         [0, 0, 12, 12, 9, 1, 1, 0],
         [4097; 3],
     );
-    sound(
+    whole(
         b"segment: 8 bytes behind: ",
         40,
         [0, 0, 12, 12, 9, 1, 1, 0],
         [4096, 4097, 4097],
     );
-    sound(b"segment: 16 bytes behind: ", 56, THREE, [4097; 3]);
+    whole(b"segment: 16 bytes behind: ", 56, THREE, [4097; 3]);
 }
 
 fn longest() {
@@ -154,7 +154,7 @@ fn orders() {
 }
 
 // A header of len bytes, whose Length says so.
-fn sound(name: &[u8], len: u32, fixed: [u8; 8], sizes: [u32; 3]) {
+fn whole(name: &[u8], len: u32, fixed: [u8; 8], sizes: [u32; 3]) {
     header(name, len as usize, front(len), fixed, sizes);
 }
 
@@ -165,12 +165,12 @@ fn lengthed(name: &[u8], len: usize, length: u32) {
 
 // A header of len bytes with a block count of these two bytes.
 fn counted(name: &[u8], len: u32, low: u8, high: u8) {
-    sound(name, len, [0, 0, 12, 12, 9, 1, low, high], [4096, 4097, 0]);
+    whole(name, len, [0, 0, 12, 12, 9, 1, low, high], [4096, 4097, 0]);
 }
 
 // A header of 40 bytes.
 fn forty(name: &[u8], fixed: [u8; 8]) {
-    sound(name, 40, fixed, [4096, 4097, 0]);
+    whole(name, 40, fixed, [4096, 4097, 0]);
 }
 
 // The first len bytes of a header with three sizes, and of bytes behind them that are no zeros.

@@ -129,7 +129,7 @@ fn head(unit_shift: u32, chunk_shift: u32, cluster_shift: u32) -> Head {
     }
 }
 
-// A header written into `room` bytes, and its Length and its bytes from 20 on.
+// A header written into `room` bytes. Where it is accepted, Length and the bytes from 20 on have to be these.
 fn write(name: &[u8], room: usize, head: Head, length: u32, fixed: [u8; 8], sizes: &[u32]) {
     let mut out = [FILL; 65536];
     print(written(
