@@ -63,9 +63,9 @@ fn a_writer_lays_out_what_it_is_given() {
     assert_eq!(out[40], 0xFF);
 }
 
-/// A byte of the record would hold what is left of it: 16.
 #[test]
 fn a_shift_over_255_is_not_cut_off() {
+    // Cut to a byte, both would be 16.
     let head = SegmentHead {
         unit_shift: 256 + 16,
         chunk_shift: 256 + 16,
