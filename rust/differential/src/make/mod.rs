@@ -7,6 +7,7 @@ pub mod entry;
 pub mod envelope;
 pub mod identifier;
 pub mod list;
+pub mod segment;
 
 use crate::rng::Rng;
 
