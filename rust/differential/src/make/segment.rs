@@ -154,10 +154,9 @@ impl Segment {
         for number in [length as u32, head.bytes_in_stream, head.bytes_in_vdl] {
             bytes.extend(number.to_le_bytes());
         }
+        let shifts = [head.unit_shift, head.chunk_shift, head.cluster_shift];
         bytes.extend([0, 0]);
-        bytes.extend(
-            [head.unit_shift, head.chunk_shift, head.cluster_shift].map(|shift| shift as u8),
-        );
+        bytes.extend(shifts.map(|shift| shift as u8));
         bytes.push(1);
         bytes.extend((self.sizes.len() as u16).to_le_bytes());
         bytes.extend(self.size_bytes());
