@@ -1,4 +1,4 @@
-//! Inputs, built byte by byte from the layouts of document 01 and then moved to boundaries.
+//! Inputs, built byte by byte from the layouts of documents 01 and 02 and then moved to boundaries.
 
 pub mod choice;
 pub mod decision;
