@@ -49,7 +49,8 @@ fn the_sizes_of_no_block_are_empty_at_their_place() {
     let mut segment = [0; 28];
     segment[8] = 28; // Length
     segment[25] = 1; // fixed
-                     // SAFETY: pointer and length are an array's.
+
+    // SAFETY: pointer and length are an array's.
     let shown = unsafe { raw::gw_segment_read(segment.as_ptr(), segment.len()) };
     assert_eq!((shown.refusal, shown.blocks), (0, 0));
     assert_eq!(shown.sizes, Part { at: 28, len: 0 });
