@@ -6,5 +6,6 @@ pub mod decisions;
 pub mod efskeys;
 pub mod entries;
 pub mod envelopes;
+pub mod segments;
 pub mod times;
 pub mod version;
