@@ -125,8 +125,8 @@ fn read_head(bytes: &[u8]) -> Head {
 fn count_larger(sizes: &[u8], unit: u32) -> u32 {
     sizes
         .chunks_exact(SIZE)
-        .filter(|size| u32_at(size, 0) > unit)
-        .count() as u32
+        .map(|size| u32::from(u32_at(size, 0) > unit))
+        .sum()
 }
 
 /// Writes a segment into the first bytes of `out` and tells its length. Length
