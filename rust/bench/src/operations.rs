@@ -5,6 +5,7 @@
 
 use std::hint::black_box;
 
+use differential::expected;
 use differential::operations::Answer;
 use gishwarem::raw::{self, codes, Head, Identifier, Request, Root, WrittenAnswer};
 use reference as by;
@@ -245,14 +246,7 @@ pub fn efskey_write<F>(meter: Meter<F>, certificate_len: usize, output: Output) 
 pub fn segment_write<F>(meter: Meter<F>, blocks: usize, output: Output) -> F {
     let faces = [raw::gw_segment_write, face::segment_write];
     let (head, sizes) = (make::SEGMENT, &make::sizes(blocks)[..]);
-    let same = by::segment::Head {
-        start_offset: head.start_offset,
-        bytes_in_stream: head.bytes_in_stream,
-        bytes_in_vdl: head.bytes_in_vdl,
-        unit_shift: head.unit_shift,
-        chunk_shift: head.chunk_shift,
-        cluster_shift: head.cluster_shift,
-    };
+    let same = expected::segment_head(&head);
     let reference = black_box(by::segment::write as fn(&mut [u8], &_, &[u32]) -> _);
     write(
         meter,

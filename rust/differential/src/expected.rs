@@ -239,15 +239,20 @@ pub fn segment_size(bytes: &[u8], index: usize) -> SizeAnswer {
 /// Writes a segment from its head and its sizes.
 #[inline]
 pub fn segment_write(out: &mut [u8], head: &SegmentHead, sizes: &[u32]) -> WrittenAnswer {
-    let head = segment::Head {
+    written(segment::write(out, &segment_head(head), sizes))
+}
+
+/// A segment's head as the reference has it.
+#[inline]
+pub fn segment_head(head: &SegmentHead) -> segment::Head {
+    segment::Head {
         start_offset: head.start_offset,
         bytes_in_stream: head.bytes_in_stream,
         bytes_in_vdl: head.bytes_in_vdl,
         unit_shift: head.unit_shift,
         chunk_shift: head.chunk_shift,
         cluster_shift: head.cluster_shift,
-    };
-    written(segment::write(out, &head, sizes))
+    }
 }
 
 /// Reads an envelope; its form goes by the keys present.
