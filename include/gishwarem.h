@@ -1,4 +1,4 @@
-/* Gishwarem: key records of encrypted files, group key envelopes and the GetKey decision.
+/* Gishwarem: key records and data segment headers of encrypted files, group key envelopes and the GetKey decision.
  *
  * Every function answers by value, the refusal's number first: 0 is accepted. On a refusal every other field is zero, but for
  * the index of a list's entry and the place that a step was asked at. A part is a place in the caller's own bytes; those of a
@@ -6,8 +6,8 @@
  * and any bytes and numbers get an answer.
  *
  * What the caller owes: a pointer and its length name bytes that may be read for the length of the call (written, for `out`),
- * no other thread changes them meanwhile, and `out` shares no byte with what is handed in beside it. A length of 0 goes with
- * any pointer, NULL too.
+ * no other thread changes them meanwhile, and `out` shares no byte with what is handed in beside it. `sizes` and `blocks` name
+ * numbers, and that pointer is aligned for uint32_t. A length of 0 goes with any pointer, NULL too.
  *
  * Codes: 0 is none, refused or the weakest; real cases count from 1. A code handed in that is not listed is the weakest one,
  * but for root_given: every value but 0 names a root key. */
@@ -28,7 +28,7 @@ extern "C" {
 /* Refusal numbers. */
 #define GW_ACCEPTED 0u            /* not refused */
 #define GW_TOO_LONG 1u            /* record or list longer than 65,535 bytes */
-#define GW_SHORT 2u               /* shorter than its fixed head: list 4, entry 20, EfsKey 32, envelope 80 */
+#define GW_SHORT 2u               /* shorter than its fixed head: list 4, entry 20, EfsKey 32, segment 28, envelope 80 */
 #define GW_LENGTHS_DISAGREE 3u    /* a length field or the sum of lengths disagrees with the bytes */
 #define GW_WRONG_MARK 4u          /* fixed mark wrong */
 #define GW_INDEX_ABOVE_31 5u      /* L1 or L2 index above 31 */
@@ -50,6 +50,7 @@ extern "C" {
 #define GW_START_PAST_TIME 21u    /* identifier's start time exceeds 64 bits */
 #define GW_BYTES_LEFT 22u         /* bytes left after the last list entry */
 #define GW_NEITHER_SERVES 23u     /* neither envelope serves */
+#define GW_WRONG_SHIFTS 25u       /* chunk and data unit shift differ, or a shift is over 31 */
 
 /* Algorithms of an entry's FEK. */
 #define GW_ALGORITHM_RSA 1u         /* Flags 0 */
@@ -95,7 +96,7 @@ extern "C" {
 #define GW_KEY_L2 2u  /* its L2 key */
 
 /* A part of the caller's bytes. Both are 0 beside a refusal, at the end of a list, and for an absent SID; an absent body of an
- * envelope has length 0 at its place in the layout. */
+ * envelope, and the sizes of no block, have length 0 at their place in the layout. */
 typedef struct gw_part {
     size_t at;  /* offset of its first byte */
     size_t len; /* its length */
@@ -158,6 +159,29 @@ typedef struct gw_efskey_answer {
     gw_part sid;         /* the SID */
     gw_part certificate; /* the certificate */
 } gw_efskey_answer;
+
+/* A Data Segment Encryption Header. */
+typedef struct gw_segment_answer {
+    uint32_t refusal;         /* refusal number */
+    uint32_t length;          /* Length: that of the whole record */
+    uint64_t start_offset;    /* starting file offset */
+    uint32_t bytes_in_stream; /* bytes within the stream size */
+    uint32_t bytes_in_vdl;    /* bytes within the valid data length */
+    uint32_t unit_shift;      /* data unit shift, 0 to 31 */
+    uint32_t chunk_shift;     /* chunk shift: the data unit shift again */
+    uint32_t cluster_shift;   /* cluster shift, 0 to 31 */
+    uint32_t blocks;          /* number of data blocks */
+    uint32_t larger;          /* how many of them are larger than the data unit, 2 to the unit shift */
+    uint32_t reserved;        /* 0 */
+    gw_part sizes;            /* the block sizes, four bytes each; what follows them is ignored */
+} gw_segment_answer;
+
+/* The size of a data block, or none. */
+typedef struct gw_size_answer {
+    uint32_t refusal; /* refusal number */
+    uint32_t found;   /* 1 where there is such a block */
+    uint32_t size;    /* its size in bytes */
+} gw_size_answer;
 
 /* The head of a Group Key Envelope. */
 typedef struct gw_head {
@@ -262,6 +286,19 @@ gw_efskey_answer gw_efskey_read(const uint8_t *key, size_t len);
 gw_written_answer gw_efskey_write(uint8_t *out, size_t room, const uint8_t *sid, size_t sid_len, const uint8_t *certificate,
                                   size_t certificate_len);
 
+/* Reads a Data Segment Encryption Header. */
+gw_segment_answer gw_segment_read(const uint8_t *segment, size_t len);
+
+/* The size of the data block at an index from 0; there is none from the count on, which is no refusal. It is refused what
+ * gw_segment_read refuses. */
+gw_size_answer gw_segment_size(const uint8_t *segment, size_t len, size_t index);
+
+/* Writes a Data Segment Encryption Header at the start of `out`, with nothing behind its sizes: one for each of `blocks` data
+ * blocks. Refused 1, then 25, then 13; a refusal changes no byte of `out`. */
+gw_written_answer gw_segment_write(uint8_t *out, size_t room, uint64_t start_offset, uint32_t bytes_in_stream,
+                                   uint32_t bytes_in_vdl, uint32_t unit_shift, uint32_t chunk_shift,
+                                   uint32_t cluster_shift, const uint32_t *sizes, size_t blocks);
+
 /* Reads a Group Key Envelope. */
 gw_envelope_answer gw_envelope_read(const uint8_t *envelope, size_t len);
 
@@ -326,6 +363,7 @@ static inline const char *gw_refusal_text(uint32_t number)
     case GW_START_PAST_TIME: return "identifier's start time exceeds 64 bits";
     case GW_BYTES_LEFT: return "bytes left after the last list entry";
     case GW_NEITHER_SERVES: return "neither envelope serves";
+    case GW_WRONG_SHIFTS: return "chunk and data unit shift differ, or a shift is over 31";
     default: return "no such refusal number";
     }
 }
@@ -339,7 +377,7 @@ static inline const char *gw_refusal_text(uint32_t number)
 #define GW_ASSERT(name, fact) typedef char gw_assert_##name[(fact) ? 1 : -1]
 #endif
 #define GW_SIZE(type, size) GW_ASSERT(type##_size, sizeof(type) == size)
-#define GW_AT(type, field, place) GW_ASSERT(type##_##field, offsetof(type, field) == place)
+#define GW_AT(type, field, place) GW_ASSERT(type##_at_##field, offsetof(type, field) == place)
 GW_SIZE(size_t, 8);
 GW_SIZE(gw_part, 16);
 GW_AT(gw_part, at, 0);
@@ -381,6 +419,23 @@ GW_AT(gw_efskey_answer, refusal, 0);
 GW_AT(gw_efskey_answer, kind, 4);
 GW_AT(gw_efskey_answer, sid, 8);
 GW_AT(gw_efskey_answer, certificate, 24);
+GW_SIZE(gw_segment_answer, 64);
+GW_AT(gw_segment_answer, refusal, 0);
+GW_AT(gw_segment_answer, length, 4);
+GW_AT(gw_segment_answer, start_offset, 8);
+GW_AT(gw_segment_answer, bytes_in_stream, 16);
+GW_AT(gw_segment_answer, bytes_in_vdl, 20);
+GW_AT(gw_segment_answer, unit_shift, 24);
+GW_AT(gw_segment_answer, chunk_shift, 28);
+GW_AT(gw_segment_answer, cluster_shift, 32);
+GW_AT(gw_segment_answer, blocks, 36);
+GW_AT(gw_segment_answer, larger, 40);
+GW_AT(gw_segment_answer, reserved, 44);
+GW_AT(gw_segment_answer, sizes, 48);
+GW_SIZE(gw_size_answer, 12);
+GW_AT(gw_size_answer, refusal, 0);
+GW_AT(gw_size_answer, found, 4);
+GW_AT(gw_size_answer, size, 8);
 GW_SIZE(gw_head, 44);
 GW_AT(gw_head, version, 0);
 GW_AT(gw_head, flags, 4);

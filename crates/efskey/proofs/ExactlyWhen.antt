@@ -1,11 +1,12 @@
 -- An EfsKey is accepted exactly when it is well formed, as MS-GPEF 2.2.1.2.2 states it, narrowed by document 01.
-use Rattle.lemmas.proofs.Basics.{ℕ, arith, Bool, true, false, cond, not, _&&_, true≢false, List, [], _∷_, _⊎_, inl, inr, ⊎-elim, _≡_, refl, sym, ap, _∙_, eqb, length, replicate, le-ltb, ltb-false, eq-eqb, ne-eqb, eqb-true, eqb-false}
+use Rattle.lemmas.proofs.Basics.{ℕ, arith, Bool, true, false, cond, not, _&&_, true≢false, List, _⊎_, inl, inr, ⊎-elim, _≡_, refl, sym, _∙_, eqb, length, le-ltb, ltb-false, eq-eqb, ne-eqb, eqb-true, eqb-false}
 use Rattle.lemmas.proofs.Cases.{by-cases, not-false}
 use Rattle.refusal.specs.declared.Outcome.the-variants as outcome
 use Rattle.refusal.specs.Chain.{firstOf, unlessRefused}
 use Rattle.wire.specs.Numbers.{leOf}
 use Rattle.wire.specs.Parts.{leAt}
 use Rattle.wire.proofs.Parts.{length-part}
+use Rattle.wire.proofs.Numbers.{le-small}
 use Rattle.sid.specs.Rule.{isSid}
 use Rattle.sid.specs.WellFormed as sid
 use Rattle.sid.proofs.ExactlyWhen.{sid-well-formed, well-formed-sid}
@@ -14,20 +15,6 @@ use Rattle.efskey.specs.Layout.{sidOffset, certificateLength, certificat
 use Rattle.efskey.specs.Reading.{efsKeyChecks, efsKeyOf, efsKeyNumber}
 use Rattle.efskey.specs.WellFormed.{WellFormed, SidField, absent, present}
 use Rattle.efskey.proofs.Reading.{accepted-checks, Passed, passed, passes, lengths-are, placed}
-
--- Reserved1 read as the number 2 is 02 00 00 00.
-zeros : (bs : List ℕ) → leOf bs ≡ 0 → bs ≡ replicate (length bs) 0
-unfolding leOf
-zeros [] e = refl
-zeros (b ∷ bs) e = let low : b ≡ 0 = omega arith in rw low (ap (λ t. 0 ∷ t) (zeros bs (omega arith)))
-
-two : (bs : List ℕ) → length bs ≡ 4 → leOf bs ≡ 2 → bs ≡ 2 ∷ 0 ∷ 0 ∷ 0 ∷ []
-unfolding leOf
-two [] l e = absurd (omega arith)
-two (b ∷ bs) l e =
-    let low : b ≡ 2 = omega arith in
-    let rest : length bs ≡ 3 = omega arith in
-    rw low (ap (λ t. 2 ∷ t) (zeros bs (omega arith) ∙ ap (λ n. replicate n 0) rest))
 
 -- The SID's three checks pass exactly where its field is one that the standard allows.
 either : (a b : Bool) → (not a && not b) ≡ false → (a ≡ true) ⊎ (b ≡ true)
@@ -62,7 +49,7 @@ checks-well-formed s e =
       head = head;
       length1-is = lengths .0;
       length2-is = lengths .1;
-      marked = two _ (length-part s 12 4 (omega arith)) (eqb-true _ _ (not-false _ (p .marked)));
+      marked = le-small 3 2 _ (omega arith) (length-part s 12 4 (omega arith)) (eqb-true _ _ (not-false _ (p .marked)));
       certificate = omega (arith, eqb-false (certificateLength s) 0 (p .certificate));
       behind = omega (arith, certificate .0);
       end = certificate .1;

@@ -1,4 +1,7 @@
--- Document 02, No. 1, as C has its answers: a data segment's header, and the size of one of its blocks.
+-- Document 02, No. 1, as C has its answers: a data segment's header, and the size of one of its blocks; and the numbers as C hands
+-- them in.
+use Prim.Native.Nat.{ℕ}
+use Rattle.segment.specs.declared.Head.{Head}
 use Rattle.segment.specs.declared.SegmentRead.{SegmentRead}
 use Rattle.segment.specs.declared.SizeRead.{SizeRead}
 use Rattle.segment.specs.Reading.{segmentNumber, segmentValues, sizeNumber, sizeFound, sizeValue}
@@ -25,3 +28,15 @@ segmentAnswer r =
 
 unfoldable pub sizeAnswer : SizeRead → SizeAnswer
 sizeAnswer r = record { refusal = sizeNumber r; found = sizeFound r; size = sizeValue r }
+
+-- the numbers that the writer takes, in the order of its arguments
+abbrev pub headFrom : ℕ → ℕ → ℕ → ℕ → ℕ → ℕ → Head
+headFrom start stream vdl unit chunk cluster =
+    record {
+      «start_offset» = start;
+      «bytes_in_stream» = stream;
+      «bytes_in_vdl» = vdl;
+      «unit_shift» = unit;
+      «chunk_shift» = chunk;
+      «cluster_shift» = cluster;
+    }

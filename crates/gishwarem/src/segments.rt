@@ -5,7 +5,7 @@ ghost use Rattle.records.specs.Writing.{outputOf};
 ghost use Rattle.segment.specs.Reading.{segmentOf, sizeOf};
 ghost use Rattle.segment.specs.Writing.{segmentBytes, segmentWritten};
 ghost use Rattle.face.specs.Shapes.{writtenAnswer};
-ghost use Rattle.face_segments.specs.Segments.{segmentAnswer, sizeAnswer};
+ghost use Rattle.face_segments.specs.Segments.{segmentAnswer, sizeAnswer, headFrom};
 use face::WrittenAnswer;
 use face::to_written;
 use face_segments::SegmentAnswer;
@@ -48,8 +48,8 @@ pub extern "C" fn gw_segment_write(
     cluster_shift: u32,
     sizes: &[u32],
 ) -> WrittenAnswer
-    ensures answer { λ r. ⌜ r ≡ writtenAnswer (segmentWritten (record { «start_offset» = «start_offset»; «bytes_in_stream» = «bytes_in_stream»; «bytes_in_vdl» = «bytes_in_vdl»; «unit_shift» = «unit_shift»; «chunk_shift» = «chunk_shift»; «cluster_shift» = «cluster_shift» }) (now (sizes .entry)) (length (now (out .entry)))) ⌝ }
-    ensures output { λ _. ⌜ now (out .exit) ≡ outputOf (segmentWritten (record { «start_offset» = «start_offset»; «bytes_in_stream» = «bytes_in_stream»; «bytes_in_vdl» = «bytes_in_vdl»; «unit_shift» = «unit_shift»; «chunk_shift» = «chunk_shift»; «cluster_shift» = «cluster_shift» }) (now (sizes .entry)) (length (now (out .entry)))) (segmentBytes (record { «start_offset» = «start_offset»; «bytes_in_stream» = «bytes_in_stream»; «bytes_in_vdl» = «bytes_in_vdl»; «unit_shift» = «unit_shift»; «chunk_shift» = «chunk_shift»; «cluster_shift» = «cluster_shift» }) (now (sizes .entry))) (now (out .entry)) ⌝ }
+    ensures answer { λ r. ⌜ r ≡ writtenAnswer (segmentWritten (headFrom «start_offset» «bytes_in_stream» «bytes_in_vdl» «unit_shift» «chunk_shift» «cluster_shift») (now (sizes .entry)) (length (now (out .entry)))) ⌝ }
+    ensures output { λ _. ⌜ now (out .exit) ≡ outputOf (segmentWritten (headFrom «start_offset» «bytes_in_stream» «bytes_in_vdl» «unit_shift» «chunk_shift» «cluster_shift») (now (sizes .entry)) (length (now (out .entry)))) (segmentBytes (headFrom «start_offset» «bytes_in_stream» «bytes_in_vdl» «unit_shift» «chunk_shift» «cluster_shift») (now (sizes .entry))) (now (out .entry)) ⌝ }
 {
     to_written(segment::write(
         out,

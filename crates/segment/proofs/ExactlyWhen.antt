@@ -1,31 +1,15 @@
 -- A header is accepted exactly when it is well formed, as MS-EFSR 2.2.3.3 states it, narrowed by document 02.
-use Rattle.lemmas.proofs.Basics.{ℕ, zero, suc, _+_, _*_, _^_, _≤_, _<_, arith, pow-suc, pow-le-pow-right, not, List, [], _∷_, _≡_, ap, ltb, length, le-ltb, ltb-true, ltb-false, eq-eqb, eqb-true}
+use Rattle.lemmas.proofs.Basics.{ℕ, zero, suc, _+_, _*_, _^_, _≤_, _<_, arith, pow-suc, pow-le-pow-right, not, List, _≡_, ap, ltb, length, le-ltb, ltb-true, ltb-false, eq-eqb, eqb-true}
 use Rattle.lemmas.proofs.Cases.{by-cases, or-false, false-or, not-false}
 use Rattle.refusal.specs.Chain.{unlessRefused}
 use Rattle.wire.specs.Numbers.{leOf}
 use Rattle.wire.specs.Parts.{leAt}
 use Rattle.wire.proofs.Parts.{length-part}
+use Rattle.wire.proofs.Numbers.{le-small}
 use Rattle.segment.specs.Layout.{lengthField, blockCount, lengthFor}
 use Rattle.segment.specs.Reading.{segmentOf, segmentNumber}
 use Rattle.segment.specs.WellFormed.{WellFormed}
 use Rattle.segment.proofs.Reading.{accepted-checks, passed, passes, lengths-are, shifts-are, shifts-right}
-
--- bytes that say 0, and one that says 1
-two-zeros : (bs : List ℕ) → length bs ≡ 2 → leOf bs ≡ 0 → bs ≡ 0 ∷ 0 ∷ []
-unfolding leOf
-two-zeros (a ∷ b ∷ []) l e =
-    let first : a ≡ 0 = omega arith in
-    let second : b ≡ 0 = omega arith in
-    rw (first, second)
-two-zeros [] l e = absurd (omega arith)
-two-zeros (a ∷ []) l e = absurd (omega arith)
-two-zeros (a ∷ b ∷ c ∷ bs) l e = absurd (omega arith)
-
-one-byte : (bs : List ℕ) → length bs ≡ 1 → leOf bs ≡ 1 → bs ≡ 1 ∷ []
-unfolding leOf
-one-byte (a ∷ []) l e = let is : a ≡ 1 = omega arith in rw is
-one-byte [] l e = absurd (omega arith)
-one-byte (a ∷ b ∷ bs) l e = absurd (omega arith)
 
 -- Sizes that agree have shifts that agree.
 power-less : (a b : ℕ) → a < b → 2 ^ a < 2 ^ b
@@ -54,8 +38,8 @@ accepted-well-formed s z =
       limit = ltb-false _ _ (p .limit);
       head = head;
       length-is = lengths .0;
-      zeros = two-zeros _ (length-part s 20 2 (omega arith)) (eqb-true _ _ (not-false _ (marks .0)));
-      one = one-byte _ (length-part s 25 1 (omega arith)) (eqb-true _ _ (not-false _ (marks .1)));
+      zeros = le-small 1 0 _ (omega arith) (length-part s 20 2 (omega arith)) (eqb-true _ _ (not-false _ (marks .0)));
+      one = le-small 0 1 _ (omega arith) (length-part s 25 1 (omega arith)) (eqb-true _ _ (not-false _ (marks .1)));
       chunk-is = ap (λ n. 2 ^ n) (shifts .0);
       unit = shifts .1;
       cluster = shifts .2;

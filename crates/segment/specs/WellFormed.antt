@@ -17,7 +17,7 @@ pub record WellFormed (s : List ℕ) : Type 0 where
   pub one : partOf s 25 1 ≡ 1 ∷ []
   -- the chunk size MUST be equal to the data unit size; a shift is the base-2 logarithm of a size
   pub chunk-is : 2 ^ chunkShift s ≡ 2 ^ unitShift s
-  -- document 02: no shift is over 31
+  -- document 02: no shift is over 31, the chunk's being the data unit's
   pub unit : unitShift s ≤ 31
   pub cluster : clusterShift s ≤ 31
   -- the Number of Data Blocks MUST be equal to the number of entries of the Data Block Sizes: each block has its size, of four bytes, in the header

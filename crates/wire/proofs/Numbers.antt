@@ -1,5 +1,5 @@
 -- Laws of numbers in bytes, shown once over the width: stored and read back, read and stored, and how far a number goes.
-use Rattle.lemmas.proofs.Basics.{ℕ, zero, suc, _+_, _*_, _/_, _%_, _^_, _≤_, _<_, arith, mul-assoc, pow-suc, pow-succ', List, [], _∷_, _++_, _≡_, refl, sym, ap, _∙_, leb, length, getD, take, drop}
+use Rattle.lemmas.proofs.Basics.{ℕ, zero, suc, _+_, _*_, _/_, _%_, _^_, _≤_, _<_, arith, mul-assoc, pow-suc, pow-succ', List, [], _∷_, _++_, _≡_, refl, sym, ap, _∙_, leb, length, getD, take, drop, replicate}
 use Rattle.wire.specs.Numbers.{leOf, leBytes, beOf}
 use Rattle.wire.specs.Parts.{partOf, leAt, beAt, joined}
 use Rattle.lemmas.proofs.Cases.{cond-cases}
@@ -35,6 +35,20 @@ pub le-below : (bs : List ℕ) → Bytes bs → leOf bs < 256 ^ length bs
 unfolding leOf
 le-below [] p = omega arith
 le-below (b ∷ bs) p = omega (arith, p .0, le-below bs (p .1), pow-suc 256 (length bs))
+
+-- A number below 256 is its first byte, and the others are zero.
+le-zero : (bs : List ℕ) → leOf bs ≡ 0 → bs ≡ replicate (length bs) 0
+unfolding leOf
+le-zero [] e = refl
+le-zero (b ∷ bs) e = let low : b ≡ 0 = omega arith in rw low (ap (λ t. 0 ∷ t) (le-zero bs (omega arith)))
+
+pub le-small : (w x : ℕ) (bs : List ℕ) → x < 256 → length bs ≡ suc w → leOf bs ≡ x → bs ≡ x ∷ replicate w 0
+unfolding leOf
+le-small w x [] h l e = absurd (omega arith)
+le-small w x (b ∷ bs) h l e =
+    let low : b ≡ x = omega arith in
+    let rest : length bs ≡ w = omega arith in
+    rw low (ap (λ t. x ∷ t) (le-zero bs (omega arith) ∙ ap (λ n. replicate n 0) rest))
 
 -- A number in two runs of bytes: the first, and the second times what the first can hold.
 pub le-append : (bs cs : List ℕ) → leOf (bs ++ cs) ≡ leOf bs + 256 ^ length bs * leOf cs

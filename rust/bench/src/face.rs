@@ -6,14 +6,15 @@ use std::slice::{from_raw_parts, from_raw_parts_mut};
 use differential::expected;
 use gishwarem::raw::{
     ChoiceAnswer, DecisionAnswer, EfsKeyAnswer, EntryAnswer, EnvelopeAnswer, Head, Identifier,
-    IdentifierAnswer, ListAnswer, ReachAnswer, Request, Root, StartAnswer, StepAnswer,
-    WrittenAnswer,
+    IdentifierAnswer, ListAnswer, ReachAnswer, Request, Root, SegmentAnswer, SizeAnswer,
+    StartAnswer, StepAnswer, WrittenAnswer,
 };
+use gishwarem::SegmentHead;
 
 // SAFETY, of every function here: it asks of a pointer and its length what `gishwarem::raw` asks.
 
-/// A lent input; a length of 0 goes with a null pointer too.
-unsafe fn input<'a>(start: *const u8, len: usize) -> &'a [u8] {
+/// A lent input of bytes or of numbers; a length of 0 goes with a null pointer too.
+unsafe fn input<'a, T>(start: *const T, len: usize) -> &'a [T] {
     if len == 0 {
         return &[];
     }
@@ -79,6 +80,38 @@ pub unsafe extern "C" fn efskey_write(
         input(sid, sid_len),
         input(certificate, certificate_len),
     )
+}
+
+pub unsafe extern "C" fn segment_read(segment: *const u8, len: usize) -> SegmentAnswer {
+    expected::segment_read(input(segment, len))
+}
+
+pub unsafe extern "C" fn segment_size(segment: *const u8, len: usize, index: usize) -> SizeAnswer {
+    expected::segment_size(input(segment, len), index)
+}
+
+#[allow(clippy::too_many_arguments)] // those of the export
+pub unsafe extern "C" fn segment_write(
+    out: *mut u8,
+    room: usize,
+    start_offset: u64,
+    bytes_in_stream: u32,
+    bytes_in_vdl: u32,
+    unit_shift: u32,
+    chunk_shift: u32,
+    cluster_shift: u32,
+    sizes: *const u32,
+    blocks: usize,
+) -> WrittenAnswer {
+    let head = SegmentHead {
+        start_offset,
+        bytes_in_stream,
+        bytes_in_vdl,
+        unit_shift,
+        chunk_shift,
+        cluster_shift,
+    };
+    expected::segment_write(output(out, room), &head, input(sizes, blocks))
 }
 
 pub unsafe extern "C" fn envelope_read(envelope: *const u8, len: usize) -> EnvelopeAnswer {

@@ -11,7 +11,7 @@ mod time;
 use operations::{
     choose, decide, efskey_read, efskey_write, entry_read, entry_write, envelope_reach,
     envelope_read, envelope_write, form_reach, identifier_older, identifier_start, list_judge,
-    list_walk, time_identifier, Asked, Output,
+    list_walk, segment_read, segment_size, segment_write, time_identifier, Asked, Output,
 };
 use records as make;
 use sides::{Meter, Row, Series};
@@ -27,6 +27,11 @@ fn row<F>(operation: &'static str, input: &str, found: F) -> Row<F> {
 /// An envelope with four texts of `units` units.
 fn envelope(units: usize) -> Vec<u8> {
     make::envelope(&make::bodies(units))
+}
+
+/// A sound segment but for its chunk shift, which is refused 25: the number at 20 has two zeros and the first two shifts.
+fn wrong_shifts(blocks: usize) -> Vec<u8> {
+    make::with(make::segment(blocks), 20, 0x0F10_0000)
 }
 
 /// A sound envelope but for its mark, which is refused 4.
@@ -84,6 +89,31 @@ fn operations<F>(meter: Meter<F>) -> Vec<Row<F>> {
             "EfsKey write",
             "572 bytes, output cleared",
             efskey_write(meter, 512, Output::Cleared),
+        ),
+        row(
+            "segment read",
+            "16 blocks",
+            segment_read(meter, 0, &make::segment(16)),
+        ),
+        row(
+            "segment read",
+            "16 blocks, wrong shifts",
+            segment_read(meter, 25, &wrong_shifts(16)),
+        ),
+        row(
+            "segment size",
+            "the last of 16,376 blocks",
+            segment_size(meter, 16_376),
+        ),
+        row(
+            "segment write",
+            "16 blocks, output kept",
+            segment_write(meter, 16, Output::Kept),
+        ),
+        row(
+            "segment write",
+            "16 blocks, output cleared",
+            segment_write(meter, 16, Output::Cleared),
         ),
         row(
             "envelope read",
@@ -154,6 +184,9 @@ fn series<F>(
 /// Numbers of entries, up to the longest list that is accepted.
 const COUNTS: [usize; 5] = [1, 10, 100, 1_000, 2_621];
 
+/// Numbers of data blocks, up to the longest segment that is accepted.
+const BLOCKS: [usize; 4] = [0, 16, 1_024, 16_376];
+
 /// Units of the four texts, up to an envelope of 65,528 bytes.
 const UNITS: [usize; 5] = [1, 10, 100, 1_000, 8_165];
 
@@ -171,6 +204,16 @@ fn growth<F>(meter: Meter<F>) -> Vec<Series<F>> {
         series("list walk", "entries", 0, &COUNTS, |count| {
             (count, list_walk(meter, &make::list(count)))
         }),
+        series("segment read", "blocks", 1, &BLOCKS, |blocks| {
+            (blocks, segment_read(meter, 0, &make::segment(blocks)))
+        }),
+        series(
+            "segment write, output kept",
+            "blocks",
+            1,
+            &BLOCKS,
+            |blocks| (blocks, segment_write(meter, blocks, Output::Kept)),
+        ),
         series("envelope read", "bytes", 0, &UNITS, |units| {
             (len(units), envelope_read(meter, 0, &envelope(units)))
         }),

@@ -5,6 +5,7 @@
 
 use std::hint::black_box;
 
+use differential::expected;
 use differential::operations::Answer;
 use gishwarem::raw::{self, codes, Head, Identifier, Request, Root, WrittenAnswer};
 use reference as by;
@@ -84,6 +85,25 @@ pub fn list_judge<F>(meter: Meter<F>, number: u32, input: &[u8]) -> F {
 pub fn efskey_read<F>(meter: Meter<F>, number: u32, input: &[u8]) -> F {
     let faces = [raw::gw_efskey_read, face::efskey_read];
     read(meter, number, input, faces, by::efskey::read)
+}
+
+pub fn segment_read<F>(meter: Meter<F>, number: u32, input: &[u8]) -> F {
+    let faces = [raw::gw_segment_read, face::segment_read];
+    read(meter, number, input, faces, by::segment::read)
+}
+
+/// The size of a segment's last block.
+pub fn segment_size<F>(meter: Meter<F>, blocks: usize) -> F {
+    let segment = &make::segment(blocks)[..];
+    let reference = black_box(by::segment::size as fn(&[u8], _) -> _);
+    measure(
+        meter,
+        0,
+        [raw::gw_segment_size, face::segment_size],
+        // SAFETY: pointer and length are those of one slice, lent for the call.
+        |size| unsafe { size(segment.as_ptr(), segment.len(), black_box(blocks - 1)) },
+        || reference(segment, black_box(blocks - 1)),
+    )
 }
 
 pub fn envelope_read<F>(meter: Meter<F>, number: u32, input: &[u8]) -> F {
@@ -220,6 +240,36 @@ pub fn efskey_write<F>(meter: Meter<F>, certificate_len: usize, output: Output) 
             )
         },
         |out| reference(out, sid, certificate),
+    )
+}
+
+pub fn segment_write<F>(meter: Meter<F>, blocks: usize, output: Output) -> F {
+    let faces = [raw::gw_segment_write, face::segment_write];
+    let (head, sizes) = (make::SEGMENT, &make::sizes(blocks)[..]);
+    let same = expected::segment_head(&head);
+    let reference = black_box(by::segment::write as fn(&mut [u8], &_, &[u32]) -> _);
+    write(
+        meter,
+        &make::segment(blocks),
+        output,
+        faces,
+        // SAFETY: each pointer and its length are a slice's, and the output is borrowed alone.
+        |write, out| unsafe {
+            let head = black_box(head);
+            write(
+                out.as_mut_ptr(),
+                out.len(),
+                head.start_offset,
+                head.bytes_in_stream,
+                head.bytes_in_vdl,
+                head.unit_shift,
+                head.chunk_shift,
+                head.cluster_shift,
+                sizes.as_ptr(),
+                sizes.len(),
+            )
+        },
+        |out| reference(out, black_box(&same), sizes),
     )
 }
 

@@ -1,5 +1,7 @@
 //! Valid records of a wished size, made without the library and without the reference's writers.
 
+use gishwarem::SegmentHead;
+
 /// A little-endian number put into a record.
 fn put(record: &mut [u8], at: usize, number: u32) {
     record[at..at + 4].copy_from_slice(&number.to_le_bytes());
@@ -79,6 +81,49 @@ pub fn efskey(certificate_len: usize) -> Vec<u8> {
         put(&mut key, at, number);
     }
     key
+}
+
+/// The numbers of a segment's head; its data unit has 65,536 bytes.
+pub const SEGMENT: SegmentHead = SegmentHead {
+    start_offset: 0x1_0000_0000,
+    bytes_in_stream: 5_000_000,
+    bytes_in_vdl: 4_000_000,
+    unit_shift: 16,
+    chunk_shift: 16,
+    cluster_shift: 12,
+};
+
+/// The sizes of `blocks` data blocks; every other two are larger than the data unit.
+pub fn sizes(blocks: usize) -> Vec<u32> {
+    [40_000, 65_536, 65_537, 90_000]
+        .into_iter()
+        .cycle()
+        .take(blocks)
+        .collect()
+}
+
+/// A segment of `blocks` data blocks, with nothing behind their sizes.
+pub fn segment(blocks: usize) -> Vec<u8> {
+    let mut segment = vec![0; 28];
+    segment[..8].copy_from_slice(&SEGMENT.start_offset.to_le_bytes());
+    let numbers = [
+        (8, 28 + 4 * blocks as u32),
+        (12, SEGMENT.bytes_in_stream),
+        (16, SEGMENT.bytes_in_vdl),
+    ];
+    for (at, number) in numbers {
+        put(&mut segment, at, number);
+    }
+    let shifts = [
+        SEGMENT.unit_shift,
+        SEGMENT.chunk_shift,
+        SEGMENT.cluster_shift,
+    ];
+    segment[22..25].copy_from_slice(&shifts.map(|shift| shift as u8));
+    segment[25] = 1;
+    segment[26..].copy_from_slice(&(blocks as u16).to_le_bytes());
+    segment.extend(sizes(blocks).iter().flat_map(|size| size.to_le_bytes()));
+    segment
 }
 
 /// A text of `units` 16-bit units, the last of them zero.

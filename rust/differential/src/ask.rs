@@ -2,9 +2,10 @@
 
 use gishwarem::raw::{
     self, ChoiceAnswer, DecisionAnswer, EfsKeyAnswer, EntryAnswer, EnvelopeAnswer, Head,
-    Identifier, IdentifierAnswer, ListAnswer, ReachAnswer, Request, Root, StartAnswer, StepAnswer,
-    WrittenAnswer,
+    Identifier, IdentifierAnswer, ListAnswer, ReachAnswer, Request, Root, SegmentAnswer,
+    SizeAnswer, StartAnswer, StepAnswer, WrittenAnswer,
 };
+use gishwarem::SegmentHead;
 
 use crate::lent::{lend, Output};
 use crate::rng::Rng;
@@ -70,6 +71,55 @@ pub fn efskey_write(
             sid.len,
             certificate.start,
             certificate.len,
+        )
+    })
+}
+
+/// Reads a segment.
+pub fn segment_read(rng: &mut Rng, segment: &[u8]) -> SegmentAnswer {
+    lend(rng, [segment], |[segment]| unsafe {
+        raw::gw_segment_read(segment.start, segment.len)
+    })
+}
+
+/// The size of a segment's block.
+pub fn segment_size(rng: &mut Rng, segment: &[u8], index: usize) -> SizeAnswer {
+    lend(rng, [segment], |[segment]| unsafe {
+        raw::gw_segment_size(segment.start, segment.len, index)
+    })
+}
+
+/// The sizes of a segment's blocks, asked one by one from index 0 until there is none.
+pub fn segment_sizes(rng: &mut Rng, segment: &[u8]) -> Vec<u32> {
+    lend(rng, [segment], |[segment]| {
+        (0..=segment.len)
+            .map(|index| unsafe { raw::gw_segment_size(segment.start, segment.len, index) })
+            .take_while(|answer| answer.found == 1)
+            .map(|answer| answer.size)
+            .collect()
+    })
+}
+
+/// Writes a segment from its head and its sizes.
+pub fn segment_write(
+    rng: &mut Rng,
+    out: &mut Output,
+    head: &SegmentHead,
+    sizes: &[u32],
+) -> WrittenAnswer {
+    let (start, room) = (out.start(), out.room());
+    lend(rng, [sizes], |[sizes]| unsafe {
+        raw::gw_segment_write(
+            start,
+            room,
+            head.start_offset,
+            head.bytes_in_stream,
+            head.bytes_in_vdl,
+            head.unit_shift,
+            head.chunk_shift,
+            head.cluster_shift,
+            sizes.start,
+            sizes.len,
         )
     })
 }

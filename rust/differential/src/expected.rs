@@ -4,16 +4,17 @@
 
 use gishwarem::raw::{
     codes, Bodies, ChoiceAnswer, DecisionAnswer, EfsKeyAnswer, EntryAnswer, EnvelopeAnswer, Head,
-    Identifier, IdentifierAnswer, ListAnswer, Part, ReachAnswer, Request, Root, StartAnswer,
-    StepAnswer, WrittenAnswer,
+    Identifier, IdentifierAnswer, ListAnswer, Part, ReachAnswer, Request, Root, SegmentAnswer,
+    SizeAnswer, StartAnswer, StepAnswer, WrittenAnswer,
 };
+use gishwarem::SegmentHead;
 use reference::choice::{self, Key, Which};
 use reference::decision::{self, Rights, Row};
 use reference::entry::Algorithm;
 use reference::list::Step;
 use reference::reach::{self, Form, Reach};
 use reference::time::{self, Gkid};
-use reference::{efskey, entry, envelope, list};
+use reference::{efskey, entry, envelope, list, segment};
 
 /// The answer to a refusal: its number, and zeros.
 macro_rules! refused {
@@ -197,6 +198,61 @@ pub fn efskey_read(bytes: &[u8]) -> EfsKeyAnswer {
 #[inline]
 pub fn efskey_write(out: &mut [u8], sid: &[u8], certificate: &[u8]) -> WrittenAnswer {
     written(efskey::write(out, sid, certificate))
+}
+
+/// Reads a segment.
+#[inline]
+pub fn segment_read(bytes: &[u8]) -> SegmentAnswer {
+    match segment::read(bytes) {
+        Ok(segment) => SegmentAnswer {
+            refusal: 0,
+            length: segment.length,
+            start_offset: segment.head.start_offset,
+            bytes_in_stream: segment.head.bytes_in_stream,
+            bytes_in_vdl: segment.head.bytes_in_vdl,
+            unit_shift: segment.head.unit_shift,
+            chunk_shift: segment.head.chunk_shift,
+            cluster_shift: segment.head.cluster_shift,
+            blocks: segment.blocks,
+            larger: segment.larger,
+            reserved: 0,
+            sizes: part(segment.sizes),
+        },
+        Err(number) => refused!(SegmentAnswer, number),
+    }
+}
+
+/// The size of a segment's block; zeros stand beside none.
+#[inline]
+pub fn segment_size(bytes: &[u8], index: usize) -> SizeAnswer {
+    match segment::size(bytes, index) {
+        Ok(Some(size)) => SizeAnswer {
+            refusal: 0,
+            found: 1,
+            size,
+        },
+        Ok(None) => SizeAnswer::default(),
+        Err(number) => refused!(SizeAnswer, number),
+    }
+}
+
+/// Writes a segment from its head and its sizes.
+#[inline]
+pub fn segment_write(out: &mut [u8], head: &SegmentHead, sizes: &[u32]) -> WrittenAnswer {
+    written(segment::write(out, &segment_head(head), sizes))
+}
+
+/// A segment's head as the reference has it.
+#[inline]
+pub fn segment_head(head: &SegmentHead) -> segment::Head {
+    segment::Head {
+        start_offset: head.start_offset,
+        bytes_in_stream: head.bytes_in_stream,
+        bytes_in_vdl: head.bytes_in_vdl,
+        unit_shift: head.unit_shift,
+        chunk_shift: head.chunk_shift,
+        cluster_shift: head.cluster_shift,
+    }
 }
 
 /// Reads an envelope; its form goes by the keys present.

@@ -1,24 +1,27 @@
-//! Bytes that are lent to the library: inputs that end where their allocation ends, and outputs between guard bytes.
+//! Bytes and numbers that are lent to the library: inputs that end where their allocation ends, and outputs between guard
+//! bytes.
+
+use std::fmt::Debug;
 
 use crate::rng::Rng;
 
 /// A lent input, as the C face takes it.
 #[derive(Clone, Copy)]
-pub struct Input {
+pub struct Input<T> {
     /// Where it starts.
-    pub start: *const u8,
+    pub start: *const T,
     /// Its length.
     pub len: usize,
 }
 
-/// Lends inputs for one question. Each is a copy in an allocation of exactly its length, so that a memory checker sees
-/// a read past its end; an empty one goes with a null pointer or with one to no bytes. Inputs keep their bytes.
-pub fn lend<const N: usize, A>(
+/// Lends inputs of bytes, or of numbers, for one question. Each is a copy in an allocation of exactly its length, so that a
+/// memory checker sees a read past its end; an empty one goes with a null pointer or with one to nothing. Inputs are kept.
+pub fn lend<T: Copy + PartialEq + Debug, const N: usize, A>(
     rng: &mut Rng,
-    inputs: [&[u8]; N],
-    ask: impl FnOnce([Input; N]) -> A,
+    inputs: [&[T]; N],
+    ask: impl FnOnce([Input<T>; N]) -> A,
 ) -> A {
-    let copies = inputs.map(Box::<[u8]>::from);
+    let copies = inputs.map(Box::<[T]>::from);
     let answer = ask(copies.each_ref().map(|copy| Input {
         start: if copy.is_empty() && rng.chance(2) {
             std::ptr::null()

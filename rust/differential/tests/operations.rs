@@ -1,6 +1,8 @@
 //! Each operation of the built library against the reference; every refusal number that applies has to be met.
 
-use differential::operations::{choice, decision, efskey, entry, envelope, list, reach, time};
+use differential::operations::{
+    choice, decision, efskey, entry, envelope, list, reach, segment, time,
+};
 
 #[test]
 fn entry_read() {
@@ -30,6 +32,21 @@ fn efskey_read() {
 #[test]
 fn efskey_write() {
     efskey::WRITE.check();
+}
+
+#[test]
+fn segment_read() {
+    segment::READ.check();
+}
+
+#[test]
+fn segment_size() {
+    segment::SIZE.check();
+}
+
+#[test]
+fn segment_write() {
+    segment::WRITE.check();
 }
 
 #[test]

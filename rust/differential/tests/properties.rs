@@ -1,6 +1,6 @@
-//! Properties of the built library: demand 3, round trips, the walk, the choice by the reach, the time rule.
+//! Properties of the built library: demand 3, round trips, the walk, a segment's blocks, the choice by the reach, the time rule.
 
-use differential::properties::{round_trips, serving, steps, waiting, walk};
+use differential::properties::{blocks, round_trips, serving, steps, waiting, walk};
 
 #[test]
 fn waiting_loses_nothing() {
@@ -23,6 +23,16 @@ fn efskey_read_then_written() {
 }
 
 #[test]
+fn segment_written_then_read() {
+    round_trips::SEGMENT_WRITTEN.check();
+}
+
+#[test]
+fn segment_read_then_written() {
+    round_trips::SEGMENT_READ.check();
+}
+
+#[test]
 fn envelope_written_then_read() {
     round_trips::ENVELOPE_WRITTEN.check();
 }
@@ -35,6 +45,11 @@ fn envelope_read_then_written() {
 #[test]
 fn list_walked() {
     walk::WALK.check();
+}
+
+#[test]
+fn segment_blocks_one_by_one() {
+    blocks::BLOCKS.check();
 }
 
 #[test]

@@ -6,7 +6,7 @@
 //! handed in beside it.
 
 use crate::raw;
-use crate::Bodies;
+use crate::{Bodies, SegmentHead};
 
 pub(crate) fn version() -> u32 {
     // SAFETY: nothing is handed in.
@@ -63,6 +63,39 @@ pub(crate) fn efskey_write(out: &mut [u8], sid: &[u8], certificate: &[u8]) -> ra
             sid.len(),
             certificate.as_ptr(),
             certificate.len(),
+        )
+    }
+}
+
+pub(crate) fn segment_read(segment: &[u8]) -> raw::SegmentAnswer {
+    // SAFETY: pointer and length are a slice's.
+    unsafe { raw::gw_segment_read(segment.as_ptr(), segment.len()) }
+}
+
+pub(crate) fn segment_size(segment: &[u8], index: usize) -> raw::SizeAnswer {
+    // SAFETY: pointer and length are a slice's; any index gets an answer.
+    unsafe { raw::gw_segment_size(segment.as_ptr(), segment.len(), index) }
+}
+
+pub(crate) fn segment_write(
+    out: &mut [u8],
+    head: &SegmentHead,
+    sizes: &[u32],
+) -> raw::WrittenAnswer {
+    // SAFETY: each pointer and its length are a slice's, aligned as its elements are, and `out` is
+    // borrowed alone; any values beside them get an answer.
+    unsafe {
+        raw::gw_segment_write(
+            out.as_mut_ptr(),
+            out.len(),
+            head.start_offset,
+            head.bytes_in_stream,
+            head.bytes_in_vdl,
+            head.unit_shift,
+            head.chunk_shift,
+            head.cluster_shift,
+            sizes.as_ptr(),
+            sizes.len(),
         )
     }
 }

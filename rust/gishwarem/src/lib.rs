@@ -1,4 +1,5 @@
-//! Key records of encrypted files, group key envelopes and the GetKey decision.
+//! Key records and data segment headers of encrypted files, group key envelopes and the GetKey
+//! decision.
 //!
 //! Each function makes one call into the library and lays its answer out: a refusal is an `Err`,
 //! and a part is a slice of the caller's own bytes. Nothing is kept between calls, nothing is
@@ -9,6 +10,7 @@
 //! | Key List Entry (MS-EFSR 2.2.2.1.2) | [`Entry`] |
 //! | a list of entries | [`List`], judged whole; [`Walk`], entry by entry |
 //! | EfsKey (MS-GPEF 2.2.1.2.2) | [`EfsKey`] |
+//! | Data Segment Encryption Header (MS-EFSR 2.2.3.3) | [`Segment`] |
 //! | Group Key Envelope (MS-GKDI 2.2.4) | [`Envelope`] |
 //! | time and identifiers | [`FileTime`], [`Gkid`], [`RootId`] |
 //! | the GetKey decision (MS-GKDI 3.1.4.1) | [`decide`] |
@@ -57,6 +59,7 @@ mod refusal;
 mod request;
 mod rootid;
 mod secret;
+mod segment;
 mod serving;
 mod time;
 mod walk;
@@ -72,6 +75,7 @@ pub use reach::Reach;
 pub use refusal::{ListRefusal, Refusal};
 pub use request::Request;
 pub use rootid::RootId;
+pub use segment::{Segment, SegmentHead};
 pub use serving::{serving_key, SeedKey, ServingKey, Source};
 pub use time::FileTime;
 pub use walk::{ListEntry, Walk};

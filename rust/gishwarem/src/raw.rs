@@ -6,7 +6,8 @@
 //! # Safety
 //!
 //! A pointer and its length name bytes that may be read for the length of the call (written, for `out`), and `out` shares no
-//! byte with what is handed in beside it. A length of 0 goes with any pointer, a null one too.
+//! byte with what is handed in beside it. `sizes` and `blocks` name numbers, and that pointer is aligned for `u32`. A length of 0
+//! goes with any pointer, a null one too.
 
 pub mod codes;
 
@@ -14,7 +15,7 @@ pub mod codes;
 pub const VERSION: u32 = 1;
 
 /// A part of the caller's bytes. Both are 0 beside a refusal, at the end of a list, and for an absent SID; an absent body of an
-/// envelope has length 0 at its place in the layout.
+/// envelope, and the sizes of no block, have length 0 at their place in the layout.
 #[repr(C)]
 #[derive(Debug, Clone, Copy, PartialEq, Eq, Default)]
 pub struct Part {
@@ -124,6 +125,48 @@ pub struct EfsKeyAnswer {
     pub sid: Part,
     /// The certificate.
     pub certificate: Part,
+}
+
+/// A Data Segment Encryption Header.
+#[repr(C)]
+#[derive(Debug, Clone, Copy, PartialEq, Eq, Default)]
+pub struct SegmentAnswer {
+    /// Refusal number.
+    pub refusal: u32,
+    /// Length: that of the whole record.
+    pub length: u32,
+    /// Starting file offset.
+    pub start_offset: u64,
+    /// Bytes within the stream size.
+    pub bytes_in_stream: u32,
+    /// Bytes within the valid data length.
+    pub bytes_in_vdl: u32,
+    /// Data unit shift, 0 to 31.
+    pub unit_shift: u32,
+    /// Chunk shift: the data unit shift again.
+    pub chunk_shift: u32,
+    /// Cluster shift, 0 to 31.
+    pub cluster_shift: u32,
+    /// Number of data blocks.
+    pub blocks: u32,
+    /// How many of them are larger than the data unit, 2 to the unit shift.
+    pub larger: u32,
+    /// 0.
+    pub reserved: u32,
+    /// The block sizes, four bytes each; what follows them is ignored.
+    pub sizes: Part,
+}
+
+/// The size of a data block, or none.
+#[repr(C)]
+#[derive(Debug, Clone, Copy, PartialEq, Eq, Default)]
+pub struct SizeAnswer {
+    /// Refusal number.
+    pub refusal: u32,
+    /// 1 where there is such a block.
+    pub found: u32,
+    /// Its size in bytes.
+    pub size: u32,
 }
 
 /// The head of a Group Key Envelope.
@@ -274,6 +317,8 @@ const _: () = {
     assert!(size_of::<ListAnswer>() == 12);
     assert!(size_of::<StepAnswer>() == 72);
     assert!(size_of::<EfsKeyAnswer>() == 40);
+    assert!(size_of::<SegmentAnswer>() == 64);
+    assert!(size_of::<SizeAnswer>() == 12);
     assert!(size_of::<Head>() == 44);
     assert!(size_of::<EnvelopeAnswer>() == 184);
     assert!(size_of::<ReachAnswer>() == 136);
@@ -315,6 +360,23 @@ extern "C" {
         sid_len: usize,
         certificate: *const u8,
         certificate_len: usize,
+    ) -> WrittenAnswer;
+    /// Reads a Data Segment Encryption Header.
+    pub fn gw_segment_read(segment: *const u8, len: usize) -> SegmentAnswer;
+    /// The size of the data block at an index from 0; there is none from the count on.
+    pub fn gw_segment_size(segment: *const u8, len: usize, index: usize) -> SizeAnswer;
+    /// Writes a Data Segment Encryption Header at the start of `out`, with nothing behind its sizes. A refusal changes no byte.
+    pub fn gw_segment_write(
+        out: *mut u8,
+        room: usize,
+        start_offset: u64,
+        bytes_in_stream: u32,
+        bytes_in_vdl: u32,
+        unit_shift: u32,
+        chunk_shift: u32,
+        cluster_shift: u32,
+        sizes: *const u32,
+        blocks: usize,
     ) -> WrittenAnswer;
     /// Reads a Group Key Envelope.
     pub fn gw_envelope_read(envelope: *const u8, len: usize) -> EnvelopeAnswer;

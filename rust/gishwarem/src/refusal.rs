@@ -19,7 +19,7 @@ use std::fmt;
 pub enum Refusal {
     /// Record or list longer than 65,535 bytes.
     TooLong = 1,
-    /// Shorter than its fixed head: list 4, entry 20, EfsKey 32, envelope 80.
+    /// Shorter than its fixed head: list 4, entry 20, EfsKey 32, segment 28, envelope 80.
     Short = 2,
     /// A length field or the sum of lengths disagrees with the bytes.
     LengthsDisagree = 3,
@@ -63,6 +63,8 @@ pub enum Refusal {
     BytesLeft = 22,
     /// Neither envelope serves.
     NeitherServes = 23,
+    /// Chunk and data unit shift differ, or a shift is over 31.
+    WrongShifts = 25,
 }
 
 impl Refusal {
@@ -75,7 +77,7 @@ impl Refusal {
     /// assert!(numbers.windows(2).all(|pair| pair[0] < pair[1]));
     /// assert!(!numbers.contains(&0));
     /// ```
-    pub const ALL: [Refusal; 23] = [
+    pub const ALL: [Refusal; 24] = [
         Refusal::TooLong,
         Refusal::Short,
         Refusal::LengthsDisagree,
@@ -99,6 +101,7 @@ impl Refusal {
         Refusal::StartPastTime,
         Refusal::BytesLeft,
         Refusal::NeitherServes,
+        Refusal::WrongShifts,
     ];
 
     /// The refusal's number.
@@ -107,7 +110,7 @@ impl Refusal {
     /// use gishwarem::Refusal;
     ///
     /// assert_eq!(Refusal::TooLong.number(), 1);
-    /// assert_eq!(Refusal::NeitherServes.number(), 23);
+    /// assert_eq!(Refusal::WrongShifts.number(), 25);
     /// ```
     pub fn number(self) -> u32 {
         self as u32
@@ -156,6 +159,7 @@ impl Refusal {
             Refusal::StartPastTime => "identifier's start time exceeds 64 bits",
             Refusal::BytesLeft => "bytes left after the last list entry",
             Refusal::NeitherServes => "neither envelope serves",
+            Refusal::WrongShifts => "chunk and data unit shift differ, or a shift is over 31",
         }
     }
 }

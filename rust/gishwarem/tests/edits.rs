@@ -2,7 +2,8 @@
 //! the promises of its reader.
 
 use gishwarem::{
-    Bodies, EfsKey, Entry, Envelope, Gkid, Head, List, ListEntry, ListRefusal, Reach, Walk,
+    Bodies, EfsKey, Entry, Envelope, Gkid, Head, List, ListEntry, ListRefusal, Reach, Segment,
+    SegmentHead, Walk,
 };
 
 /// Hands on each beginning of a record, and the record with each of its bytes changed in turn.
@@ -96,6 +97,51 @@ fn an_efskey_that_is_read_is_written_again() {
             assert_eq!(again[..24], bytes[..24]);
             assert_eq!(again[24..32], [0; 8]);
             assert_eq!(again[32..], bytes[32..]);
+        }
+    });
+}
+
+/// Three data blocks, the last of them larger than the data unit of 512 bytes, and 5 bytes behind their sizes.
+fn three_blocks() -> [u8; 45] {
+    let head = SegmentHead {
+        start_offset: 0x1_0000_0000,
+        bytes_in_stream: 1500,
+        bytes_in_vdl: 1025,
+        unit_shift: 9,
+        chunk_shift: 9,
+        cluster_shift: 12,
+    };
+    let mut record = [0xEE; 45];
+    Segment::write(&mut record, &head, &[512, 100, 513]).expect("a segment");
+    record[8] = 45; // Length
+    record
+}
+
+#[test]
+fn a_segment_that_is_read_is_written_again() {
+    each_edit(&three_blocks(), |bytes| {
+        if let Ok(segment) = Segment::read(bytes) {
+            let sizes: Vec<u32> = segment.sizes().collect();
+            let end = 28 + 4 * sizes.len();
+            let mut again = bytes.to_vec();
+            let length = Segment::write(&mut again, &segment.head(), &sizes);
+            assert_eq!(length, Ok(end));
+            assert_eq!(again[..8], bytes[..8]);
+            assert_eq!(again[8..12], (end as u32).to_le_bytes());
+            assert_eq!(again[12..], bytes[12..]);
+        }
+    });
+}
+
+#[test]
+fn a_segments_larger_blocks_are_those_of_its_sizes() {
+    each_edit(&three_blocks(), |bytes| {
+        if let Ok(segment) = Segment::read(bytes) {
+            let unit = 1 << segment.head().unit_shift;
+            let larger = segment.sizes().filter(|&size| size > unit).count();
+            assert_eq!(segment.larger() as usize, larger);
+            assert_eq!(segment.size(segment.sizes().len()), None);
+            assert!(lies_in(segment.size_bytes(), bytes));
         }
     });
 }

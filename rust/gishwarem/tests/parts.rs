@@ -45,6 +45,18 @@ fn an_absent_sid_is_0_and_0() {
 }
 
 #[test]
+fn the_sizes_of_no_block_are_empty_at_their_place() {
+    let mut segment = [0; 28];
+    segment[8] = 28; // Length
+    segment[25] = 1; // fixed
+
+    // SAFETY: pointer and length are an array's.
+    let shown = unsafe { raw::gw_segment_read(segment.as_ptr(), segment.len()) };
+    assert_eq!((shown.refusal, shown.blocks), (0, 0));
+    assert_eq!(shown.sizes, Part { at: 28, len: 0 });
+}
+
+#[test]
 fn at_the_end_of_a_list_there_is_no_part() {
     let list = [0; 4];
     // SAFETY: pointer and length are an array's.

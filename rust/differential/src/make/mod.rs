@@ -1,4 +1,4 @@
-//! Inputs, built byte by byte from the layouts of document 01 and then moved to boundaries.
+//! Inputs, built byte by byte from the layouts of documents 01 and 02 and then moved to boundaries.
 
 pub mod choice;
 pub mod decision;
@@ -7,6 +7,7 @@ pub mod entry;
 pub mod envelope;
 pub mod identifier;
 pub mod list;
+pub mod segment;
 
 use crate::rng::Rng;
 

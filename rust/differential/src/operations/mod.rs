@@ -7,13 +7,14 @@ pub mod entry;
 pub mod envelope;
 pub mod list;
 pub mod reach;
+pub mod segment;
 pub mod time;
 
 use std::fmt::Debug;
 
 use gishwarem::raw::{
     ChoiceAnswer, DecisionAnswer, EfsKeyAnswer, EntryAnswer, EnvelopeAnswer, IdentifierAnswer,
-    ListAnswer, ReachAnswer, StartAnswer, StepAnswer, WrittenAnswer,
+    ListAnswer, ReachAnswer, SegmentAnswer, SizeAnswer, StartAnswer, StepAnswer, WrittenAnswer,
 };
 
 use crate::hex::Hex;
@@ -23,13 +24,16 @@ use crate::subject::Subject;
 use crate::tally::Tally;
 
 /// Every operation.
-pub const ALL: [Subject; 15] = [
+pub const ALL: [Subject; 18] = [
     entry::READ,
     entry::WRITE,
     list::JUDGE,
     list::STEP,
     efskey::READ,
     efskey::WRITE,
+    segment::READ,
+    segment::SIZE,
+    segment::WRITE,
     envelope::READ,
     envelope::WRITE,
     reach::OF_ENVELOPE,
@@ -59,7 +63,7 @@ macro_rules! answers {
 
 answers! {
     ChoiceAnswer DecisionAnswer EfsKeyAnswer EntryAnswer EnvelopeAnswer IdentifierAnswer
-    ListAnswer ReachAnswer StartAnswer StepAnswer WrittenAnswer
+    ListAnswer ReachAnswer SegmentAnswer SizeAnswer StartAnswer StepAnswer WrittenAnswer
 }
 
 /// One input, as a difference is told.

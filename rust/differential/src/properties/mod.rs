@@ -1,6 +1,7 @@
 //! Properties of the built library alone: what it answers is held against what else it answers, and the reference isn't
 //! asked.
 
+pub mod blocks;
 pub mod round_trips;
 pub mod serving;
 pub mod steps;
@@ -12,14 +13,17 @@ use gishwarem::raw::{Identifier, Part};
 use crate::subject::Subject;
 
 /// Every property.
-pub const ALL: [Subject; 9] = [
+pub const ALL: [Subject; 12] = [
     waiting::WAITING,
     round_trips::ENTRY,
     round_trips::EFSKEY_WRITTEN,
     round_trips::EFSKEY_READ,
+    round_trips::SEGMENT_WRITTEN,
+    round_trips::SEGMENT_READ,
     round_trips::ENVELOPE_WRITTEN,
     round_trips::ENVELOPE_READ,
     walk::WALK,
+    blocks::BLOCKS,
     serving::SERVING,
     steps::STEPS,
 ];

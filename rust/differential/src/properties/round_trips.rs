@@ -1,13 +1,15 @@
 //! Round trips: what is written reads back as it was given, and what is read writes the same bytes.
 
 use gishwarem::raw::{codes, EnvelopeAnswer};
+use gishwarem::SegmentHead;
 
 use super::part_of;
 use crate::ask;
 use crate::hex::Hex;
 use crate::lent::Output;
 use crate::make::envelope::Envelope;
-use crate::make::{efskey, entry, envelope, room, Kind};
+use crate::make::segment::Segment;
+use crate::make::{efskey, entry, envelope, put_number, room, segment, Kind};
 use crate::rng::Rng;
 use crate::subject::Subject;
 use crate::tally::Tally;
@@ -34,6 +36,22 @@ pub const EFSKEY_READ: Subject = Subject {
     run: efskey_read,
     refusals: &[1, 2, 3, 4, 6, 7, 12],
     events: &[],
+};
+
+/// A segment that is written reads back.
+pub const SEGMENT_WRITTEN: Subject = Subject {
+    name: "segment written, then read",
+    run: segment_written,
+    refusals: &[1, 13, 25],
+    events: &[],
+};
+
+/// A segment that is read writes the same bytes, where nothing follows its sizes; else the same up to there, but for Length.
+pub const SEGMENT_READ: Subject = Subject {
+    name: "segment read, then written",
+    run: segment_read,
+    refusals: &[1, 2, 3, 4, 25],
+    events: &["same", "same but for Length"],
 };
 
 /// An envelope that is written reads back.
@@ -118,6 +136,50 @@ fn efskey_read(rng: &mut Rng, tally: &mut Tally) {
     same[efskey::RESERVED2].fill(0);
     let told = (read, written, Hex(&bytes));
     assert_eq!((written.refusal, written.len), (0, bytes.len()), "{told:?}");
+    assert!(out.holds(&same), "{told:?}");
+}
+
+fn segment_written(rng: &mut Rng, tally: &mut Tally) {
+    let kind = tally.kind(rng);
+    let segment = Segment::of(rng, kind);
+    let room = room(rng, kind, segment.length());
+    let mut out = Output::new(rng, room);
+    let written = ask::segment_write(rng, &mut out, &segment.head, &segment.sizes);
+    tally.answer(written.refusal);
+    if written.refusal != 0 {
+        return;
+    }
+    let record = out.first(written.len);
+    let read = ask::segment_read(rng, record);
+    let told = (read, Hex(record));
+    assert_eq!(read.refusal, 0, "{told:?}");
+    assert_eq!(SegmentHead::from(read), segment.head, "{told:?}");
+    assert_eq!(read.blocks as usize, segment.sizes.len(), "{told:?}");
+    let sizes = ask::segment_sizes(rng, record);
+    assert_eq!(sizes, segment.sizes, "{told:?}");
+}
+
+fn segment_read(rng: &mut Rng, tally: &mut Tally) {
+    let kind = tally.kind(rng);
+    let bytes = segment::record(rng, kind);
+    let read = ask::segment_read(rng, &bytes);
+    tally.answer(read.refusal);
+    if read.refusal != 0 {
+        return;
+    }
+    let mut out = enough(rng, &bytes);
+    let sizes = ask::segment_sizes(rng, &bytes);
+    let written = ask::segment_write(rng, &mut out, &read.into(), &sizes);
+    let end = read.sizes.at + read.sizes.len;
+    let mut same = bytes[..end].to_vec();
+    if end == bytes.len() {
+        tally.event("same");
+    } else {
+        tally.event("same but for Length");
+        put_number(&mut same, segment::LENGTH, end as u32);
+    }
+    let told = (read, written, Hex(&bytes));
+    assert_eq!((written.refusal, written.len), (0, end), "{told:?}");
     assert!(out.holds(&same), "{told:?}");
 }
 
