@@ -45,12 +45,12 @@ reads-back h sizes wide accepted =
     let f = fits h sizes accepted in
     let checks : firstOf (segmentChecks s) ≡ outcome.Accepted = sym (as-read h sizes (omega (arith, f .unit)) (omega (arith, f .unit, f .chunk)) (omega (arith, f .cluster))) ∙ accepted in
     let count = is-count h sizes (f .limit) in
-    let read : (k : ℕ) → k < length sizes → sizeAt s k ≡ getD sizes k 0 = λ k inside. is-size h sizes (f .limit) k inside (wide .each k inside) in
+    let read : (k : ℕ) → k < length sizes → sizeAt s k ≡ getD sizes k 0 = λ k inside. is-size h sizes k inside (wide .each k inside) in
     let larger : largerThan (2 ^ h .«unit_shift») (length sizes) (sizeAt s) ≡ largerThan (2 ^ h .«unit_shift») (length sizes) (λ k. getD sizes k 0) =
     count-is (length sizes) (λ k inside. ap (ltb (2 ^ h .«unit_shift»)) (read k inside))
     in
     record {
-      values = rw (checks, is-head h sizes f wide, is-length h sizes (f .limit), count, is-unit h sizes (f .limit) (omega (arith, f .unit)), larger);
+      values = rw (checks, is-head h sizes f wide, is-length h sizes (f .limit), count, is-unit h sizes (omega (arith, f .unit)), larger);
       each = λ k inside. rw (checks, count, lt-ltb k (length sizes) inside, read k inside);
       beyond = λ k past. rw (checks, count, le-ltb k (length sizes) past);
       sizes-bytes = rw (checks, count) (piece-part (pieces h sizes) 10 28 (4 * length sizes) refl (length-le32Bytes sizes));

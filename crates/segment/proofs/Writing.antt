@@ -10,7 +10,7 @@ use Rattle.wire.proofs.Numbers.{bytes-back, le-piece}
 use Rattle.wire.proofs.Parts.{part-right}
 use Rattle.wire.proofs.Writing.{length-joined, length-le32Bytes, le32s-read}
 use Rattle.segment.specs.declared.Head.{Head}
-use Rattle.segment.specs.Layout.{startOffset, lengthField, bytesInStream, bytesInVdl, zeroBytes, unitShift, chunkShift, clusterShift, oneByte, blockCount, sizeAt, headOf}
+use Rattle.segment.specs.Layout.{lengthField, zeroBytes, unitShift, chunkShift, clusterShift, oneByte, blockCount, sizeAt, headOf}
 use Rattle.segment.specs.Reading.{segmentChecks}
 use Rattle.segment.specs.Writing.{segmentLength, pieces, segmentBytes, writeChecks}
 use Rattle.segment.proofs.Reading.{shifts-are}
@@ -75,11 +75,11 @@ pub record Wide (h : Head) (sizes : List ℕ) : Type 0 where
   pub vdl : h .«bytes_in_vdl» < 2 ^ 32
   pub each : (k : ℕ) → k < length sizes → getD sizes k 0 < 2 ^ 32
 
--- What the numbers read as, where the record is within the limit and each shift is a byte.
-module _ (h : Head) (sizes : List ℕ) (limit : segmentLength sizes ≤ 65535) where
-  pub is-length : lengthField (segmentBytes h sizes) ≡ segmentLength sizes
+-- What the numbers read as: Length and the count where the record is within the limit, a shift where it is a byte.
+module _ (h : Head) (sizes : List ℕ) where
+  pub is-length : segmentLength sizes ≤ 65535 → lengthField (segmentBytes h sizes) ≡ segmentLength sizes
   unfolding segmentBytes joined leBytes
-  is-length = le-piece 4 (pieces h sizes) 1 (segmentLength sizes) 8 refl (omega arith) refl
+  is-length limit = le-piece 4 (pieces h sizes) 1 (segmentLength sizes) 8 refl (omega arith) refl
 
   is-marks : (zeroBytes (segmentBytes h sizes) ≡ 0) × (oneByte (segmentBytes h sizes) ≡ 1)
   unfolding segmentBytes joined leBytes
@@ -97,21 +97,9 @@ module _ (h : Head) (sizes : List ℕ) (limit : segmentLength sizes ≤ 65535) w
   unfolding segmentBytes joined leBytes
   is-cluster small = le-piece 1 (pieces h sizes) 7 _ 24 refl small refl
 
-  pub is-count : blockCount (segmentBytes h sizes) ≡ length sizes
+  pub is-count : segmentLength sizes ≤ 65535 → blockCount (segmentBytes h sizes) ≡ length sizes
   unfolding segmentBytes joined leBytes
-  is-count = le-piece 2 (pieces h sizes) 9 (length sizes) 26 refl (omega arith) refl
-
-  is-start : h .«start_offset» < 2 ^ 64 → startOffset (segmentBytes h sizes) ≡ h .«start_offset»
-  unfolding segmentBytes joined leBytes
-  is-start small = le-piece 8 (pieces h sizes) 0 _ 0 refl small refl
-
-  is-stream : h .«bytes_in_stream» < 2 ^ 32 → bytesInStream (segmentBytes h sizes) ≡ h .«bytes_in_stream»
-  unfolding segmentBytes joined leBytes
-  is-stream small = le-piece 4 (pieces h sizes) 2 _ 12 refl small refl
-
-  is-vdl : h .«bytes_in_vdl» < 2 ^ 32 → bytesInVdl (segmentBytes h sizes) ≡ h .«bytes_in_vdl»
-  unfolding segmentBytes joined leBytes
-  is-vdl small = le-piece 4 (pieces h sizes) 3 _ 16 refl small refl
+  is-count limit = le-piece 2 (pieces h sizes) 9 (length sizes) 26 refl (omega arith) refl
 
   pub is-size : (k : ℕ) → k < length sizes → getD sizes k 0 < 2 ^ 32 → sizeAt (segmentBytes h sizes) k ≡ getD sizes k 0
   unfolding sizeAt leAt segmentBytes joined leBytes
@@ -121,14 +109,14 @@ module _ (h : Head) (sizes : List ℕ) (limit : segmentLength sizes ≤ 65535) w
 
 -- The head reads back as given.
 pub is-head : (h : Head) (sizes : List ℕ) → Fits h sizes → Wide h sizes → headOf (segmentBytes h sizes) ≡ h
-unfolding headOf
+unfolding headOf segmentBytes joined leBytes
 is-head h sizes f wide = λ i. record {
-  «start_offset» = is-start h sizes (f .limit) (wide .start) i;
-  «bytes_in_stream» = is-stream h sizes (f .limit) (wide .stream) i;
-  «bytes_in_vdl» = is-vdl h sizes (f .limit) (wide .vdl) i;
-  «unit_shift» = is-unit h sizes (f .limit) (omega (arith, f .unit)) i;
-  «chunk_shift» = is-chunk h sizes (f .limit) (omega (arith, f .unit, f .chunk)) i;
-  «cluster_shift» = is-cluster h sizes (f .limit) (omega (arith, f .cluster)) i;
+  «start_offset» = le-piece 8 (pieces h sizes) 0 _ 0 refl (wide .start) refl i;
+  «bytes_in_stream» = le-piece 4 (pieces h sizes) 2 _ 12 refl (wide .stream) refl i;
+  «bytes_in_vdl» = le-piece 4 (pieces h sizes) 3 _ 16 refl (wide .vdl) refl i;
+  «unit_shift» = is-unit h sizes (omega (arith, f .unit)) i;
+  «chunk_shift» = is-chunk h sizes (omega (arith, f .unit, f .chunk)) i;
+  «cluster_shift» = is-cluster h sizes (omega (arith, f .cluster)) i;
 }
 
 -- Where each shift is a byte, the writer refuses what the reader would refuse of the bytes, by the same number.
@@ -137,8 +125,8 @@ pub as-read : (h : Head) (sizes : List ℕ) → h .«unit_shift» < 256 → h .�
 unfolding writeChecks segmentChecks
 as-read h sizes unit chunk cluster =
     rw (length-bytes h sizes) (first-after _ _ _ _ (λ q. let limit = ltb-false 65535 (segmentLength sizes) q in
-    let marks = is-marks h sizes limit in
-    rw (is-length h sizes limit, is-count h sizes limit, marks .0, marks .1, is-unit h sizes limit unit, is-chunk h sizes limit chunk, is-cluster h sizes limit cluster)
+    let marks = is-marks h sizes in
+    rw (is-length h sizes limit, is-count h sizes limit, marks .0, marks .1, is-unit h sizes unit, is-chunk h sizes chunk, is-cluster h sizes cluster)
     (sym (first-next _ _ _ (le-ltb (segmentLength sizes) 28 (omega arith))
     ∙ first-next _ _ _ (false-or (ap not (eq-eqb (segmentLength sizes) _ refl)) (le-ltb (segmentLength sizes) (segmentLength sizes) (omega arith)))
     ∙ first-next _ _ _ refl))))
