@@ -51,6 +51,7 @@ unfoldable pub segmentNumber : SegmentRead → ℕ
 segmentNumber (Accepted t) = 0
 segmentNumber (Refused r) = numberOf r
 
+-- the head beside a refusal
 abbrev pub noHead : Head
 noHead = record { «start_offset» = 0; «bytes_in_stream» = 0; «bytes_in_vdl» = 0; «unit_shift» = 0; «chunk_shift» = 0; «cluster_shift» = 0 }
 

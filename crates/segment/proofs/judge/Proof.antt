@@ -1,5 +1,5 @@
 -- `judge`: one check after the other, on the numbers as they were read.
-use Rattle.lemmas.proofs.Basics.{sym, _∙_, needs, lt-ltb, le-ltb}
+use Rattle.lemmas.proofs.Basics.{_<_, arith, sym, _∙_, length, needs, lt-ltb, le-ltb}
 use Rattle.refusal.specs.Chain.{firstOf}
 use Rattle.segment.specs.Reading.{segmentChecks}
 use Rattle.segment.proofs.judge.Statement.{statement}
@@ -11,7 +11,7 @@ returns c = rw (lt-ltb _ _ (c .if1 .taken))
 
 returns-2 : tie.Need-returns-2
 unfolding segmentChecks firstOf
-returns-2 c = rw (le-ltb _ _ (c .before .if1 .left), lt-ltb _ _ (c .if2 .taken))
+returns-2 c = let short : length (c .before .before .before .args .s .now) < 28 = omega arith in rw (le-ltb _ _ (c .before .if1 .left), lt-ltb _ 28 short)
 
 returns-3 : tie.Need-returns-3
 unfolding segmentChecks firstOf
