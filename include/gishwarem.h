@@ -22,8 +22,9 @@ extern "C" {
 #endif
 
 /* The version of this header. It is raised where an answer or a signature changes; the built library has its own, which
- * gw_version answers: a host may compare them once. */
-#define GW_VERSION 1u
+ * gw_version answers: a host may compare them once.
+ * 2: zeros in place of a SID, which were refused with 12, are accepted, with the kind GW_SID_NO_HINT. */
+#define GW_VERSION 2u
 
 /* Refusal numbers. */
 #define GW_ACCEPTED 0u            /* not refused */
@@ -62,8 +63,9 @@ extern "C" {
 #define GW_STEP_END 2u   /* the end of the list */
 
 /* The SID of an EfsKey. */
-#define GW_SID_NONE 0u /* there is none */
-#define GW_SID_GIVEN 1u /* there is one */
+#define GW_SID_NONE 0u    /* there is none */
+#define GW_SID_GIVEN 1u   /* there is one */
+#define GW_SID_NO_HINT 2u /* zeros in its place: no hint given */
 
 /* Forms: the keys that an envelope carries, or that a request is granted. */
 #define GW_FORM_KEYLESS 0u /* NOKEY: none */
@@ -95,7 +97,7 @@ extern "C" {
 #define GW_KEY_L1 1u  /* its L1 key */
 #define GW_KEY_L2 2u  /* its L2 key */
 
-/* A part of the caller's bytes. Both are 0 beside a refusal, at the end of a list, and for an absent SID; an absent body of an
+/* A part of the caller's bytes. Both are 0 beside a refusal, at the end of a list, and with GW_SID_NONE; an absent body of an
  * envelope, and the sizes of no block, have length 0 at their place in the layout. */
 typedef struct gw_part {
     size_t at;  /* offset of its first byte */
@@ -156,7 +158,7 @@ typedef struct gw_step_answer {
 typedef struct gw_efskey_answer {
     uint32_t refusal;    /* refusal number */
     uint32_t kind;       /* GW_SID_.. */
-    gw_part sid;         /* the SID */
+    gw_part sid;         /* the SID, or the zeros in its place */
     gw_part certificate; /* the certificate */
 } gw_efskey_answer;
 
@@ -282,7 +284,7 @@ gw_step_answer gw_list_step(const uint8_t *list, size_t len, size_t at, uint32_t
 /* Reads an EfsKey. */
 gw_efskey_answer gw_efskey_read(const uint8_t *key, size_t len);
 
-/* Writes an EfsKey at the start of `out`; an empty SID means none. A refusal changes no byte of `out`. */
+/* Writes an EfsKey at the start of `out`; an empty SID means none, zeros no hint. A refusal changes no byte of `out`. */
 gw_written_answer gw_efskey_write(uint8_t *out, size_t room, const uint8_t *sid, size_t sid_len, const uint8_t *certificate,
                                   size_t certificate_len);
 

@@ -1,5 +1,5 @@
 -- An EfsKey is accepted exactly when it is well formed, as MS-GPEF 2.2.1.2.2 states it, narrowed by document 01.
-use Rattle.lemmas.proofs.Basics.{ℕ, arith, Bool, true, false, cond, not, _&&_, true≢false, List, _⊎_, inl, inr, ⊎-elim, _≡_, refl, sym, _∙_, eqb, length, le-ltb, ltb-false, eq-eqb, ne-eqb, eqb-true, eqb-false}
+use Rattle.lemmas.proofs.Basics.{ℕ, arith, Bool, true, false, cond, not, _&&_, List, _⊎_, inl, inr, ⊎-elim, _≡_, refl, sym, _∙_, eqb, length, le-ltb, ltb-false, eq-eqb, ne-eqb, eqb-true, eqb-false}
 use Rattle.lemmas.proofs.Cases.{by-cases, not-false}
 use Rattle.refusal.specs.declared.Outcome.the-variants as outcome
 use Rattle.refusal.specs.Chain.{firstOf, unlessRefused}
@@ -7,13 +7,14 @@ use Rattle.wire.specs.Numbers.{leOf}
 use Rattle.wire.specs.Parts.{leAt}
 use Rattle.wire.proofs.Parts.{length-part}
 use Rattle.wire.proofs.Numbers.{le-small}
-use Rattle.sid.specs.Rule.{isSid}
-use Rattle.sid.specs.WellFormed as sid
 use Rattle.sid.proofs.ExactlyWhen.{sid-well-formed, well-formed-sid}
-use Rattle.efskey.specs.declared.SidArea.the-variants.{Sid, Malformed}
-use Rattle.efskey.specs.Layout.{sidOffset, certificateLength, certificateOffset, sidMisplaced, gapWithoutSid, sidArea, areaOf, areaIn, sidMalformed}
-use Rattle.efskey.specs.Reading.{efsKeyChecks, efsKeyOf, efsKeyNumber}
-use Rattle.efskey.specs.WellFormed.{WellFormed, SidField, absent, present}
+use Rattle.efskey.specs.declared.SidHint.{SidHint}
+use Rattle.efskey.specs.declared.SidHint.the-variants.{None, Sid, NoHint}
+use Rattle.efskey.specs.declared.EfsKeyRead.the-variants.{Accepted}
+use Rattle.efskey.specs.Layout.{sidOffset, certificateLength, certificateOffset, sidMisplaced, gapWithoutSid, sidArea, isNoHint, areaSpan, hintOf, sidMalformed, hintIn}
+use Rattle.efskey.specs.Reading.{efsKeyChecks, shownWith, efsKeyOf, efsKeyNumber}
+use Rattle.efskey.specs.WellFormed.{WellFormed, SidField, absent, no-hint, present}
+use Rattle.efskey.proofs.Hints.{hint-zeros, zeros-hint, sid-hint}
 use Rattle.efskey.proofs.Reading.{accepted-checks, Passed, passed, passes, lengths-are, placed}
 
 -- The SID's three checks pass exactly where its field is one that the standard allows.
@@ -21,20 +22,39 @@ either : (a b : Bool) → (not a && not b) ≡ false → (a ≡ true) ⊎ (b ≡
 either true b e = inl refl
 either false b e = inr (not-false b e)
 
-one : (area : List ℕ) → sidMalformed (areaOf 28 area) ≡ false → sid.WellFormed area
-unfolding areaOf sidMalformed
-one area = by-cases (λ t. sidMalformed (cond t Sid Malformed) ≡ false → sid.WellFormed area) (isSid area) (λ q _. sid-well-formed area q) (λ _ e. absurd (true≢false e))
+area-field : (s : List ℕ) → sidOffset s ≡ 28 → sidMalformed (hintOf 28 (sidArea s)) (sidArea s) ≡ false → SidField s
+unfolding hintOf sidMalformed
+area-field s some =
+    by-cases (λ t. sidMalformed (cond t (NoHint (areaSpan (sidArea s))) (Sid (areaSpan (sidArea s)))) (sidArea s) ≡ false → SidField s) (isNoHint (sidArea s))
+    (λ q _. let zeros = hint-zeros (sidArea s) q in no-hint some (zeros .0) (zeros .1))
+    (λ _ e. present some (sid-well-formed (sidArea s) (not-false _ e)))
 
 sid-field : (s : List ℕ) → Passed s → SidField s
 sid-field s p =
     ⊎-elim (λ none. absent (eqb-true _ _ none) (eqb-true _ _ (not-false _ (rw none at (p .gap)))))
-    (λ some. present (eqb-true _ _ some) (one (sidArea s) (rw (eqb-true (sidOffset s) 28 some) at (p .sid))))
+    (λ some. let is = eqb-true (sidOffset s) 28 some in area-field s is (rw is at (p .sid)))
     (either (eqb (sidOffset s) 0) (eqb (sidOffset s) 28) (p .offset))
 
-field-sid : (s : List ℕ) → SidField s → (sidMisplaced (sidOffset s) ≡ false) × (gapWithoutSid (sidOffset s) (certificateOffset s) ≡ false) × (sidMalformed (areaIn s) ≡ false)
-unfolding areaOf sidMalformed
-field-sid s (absent none straight) = rw (none, straight) (refl, refl, refl)
-field-sid s (present some sound) = rw (some, well-formed-sid _ sound) (refl, refl, refl)
+-- what each of the three fields is shown as
+abbrev pub fieldHint : (s : List ℕ) → SidField s → SidHint
+fieldHint s (absent none straight) = None
+fieldHint s (no-hint some one zeros) = NoHint (areaSpan (sidArea s))
+fieldHint s (present some sound) = Sid (areaSpan (sidArea s))
+
+field-shown : (s : List ℕ) (field : SidField s) → hintIn s ≡ fieldHint s field
+unfolding hintOf
+field-shown s (absent none straight) = rw none
+field-shown s (no-hint some one zeros) = rw (some, zeros-hint (sidArea s) one zeros)
+field-shown s (present some sound) = rw (some, sid-hint (sidArea s) sound)
+
+field-sid : (s : List ℕ) → SidField s → (sidMisplaced (sidOffset s) ≡ false) × (gapWithoutSid (sidOffset s) (certificateOffset s) ≡ false) × (sidMalformed (hintIn s) (sidArea s) ≡ false)
+unfolding sidMalformed
+field-sid s field = rw (field-shown s field) (told field)
+  where
+    told : (field : SidField s) → (sidMisplaced (sidOffset s) ≡ false) × (gapWithoutSid (sidOffset s) (certificateOffset s) ≡ false) × (sidMalformed (fieldHint s field) (sidArea s) ≡ false)
+    told (absent none straight) = rw (none, straight) (refl, refl, refl)
+    told (no-hint some one zeros) = rw some (refl, refl, refl)
+    told (present some sound) = rw (some, well-formed-sid _ sound) (refl, refl, refl)
 
 -- Accepted, so well formed.
 pub checks-well-formed : (s : List ℕ) → firstOf (efsKeyChecks s) ≡ outcome.Accepted → WellFormed s
@@ -75,3 +95,8 @@ well-formed-accepted s w =
       gap = sid .1;
       sid = sid .2;
     }))
+
+-- An accepted record shows what its field is, so that it is one of the three alone.
+pub accepted-shows : (s : List ℕ) → efsKeyNumber (efsKeyOf s) ≡ 0 → (field : SidField s) → efsKeyOf s ≡ Accepted (shownWith s (fieldHint s field))
+unfolding efsKeyOf unlessRefused
+accepted-shows s z field = rw (accepted-checks s z, field-shown s field)

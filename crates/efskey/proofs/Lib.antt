@@ -1,3 +1,4 @@
+pub mod Hints
 pub mod Reading
 pub mod ExactlyWhen
 pub mod Writing

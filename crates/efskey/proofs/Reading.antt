@@ -1,20 +1,21 @@
 -- Laws of the reader's answer.
-use Rattle.lemmas.proofs.Basics.{ℕ, _+_, _≤_, arith, false, not, List, _≡_, refl, ap, _∙_, ltb, eqb, length, ltb-false, eqb-true}
-use Rattle.lemmas.proofs.Cases.{or-false, not-false}
+use Rattle.lemmas.proofs.Basics.{ℕ, _+_, _-_, _≤_, arith, false, not, List, _≡_, refl, ap, _∙_, ltb, eqb, length, ltb-false, eqb-true}
+use Rattle.lemmas.proofs.Cases.{cond-cases, or-false, not-false}
 use Rattle.refusal.specs.declared.Outcome.{Outcome}
 use Rattle.refusal.specs.declared.Outcome.the-variants as outcome
 use Rattle.refusal.specs.declared.Refusal.{Refusal}
 use Rattle.refusal.specs.Chain.{firstOf, unlessRefused}
 use Rattle.refusal.proofs.Chains.{accepted-pass, pass-accepted, unless-zero}
-use Rattle.efskey.specs.declared.SidArea.{SidArea}
-use Rattle.efskey.specs.declared.SidArea.the-variants as area
+use Rattle.wire.specs.declared.Span.{Span}
+use Rattle.wire.proofs.Parts.{length-part}
 use Rattle.efskey.specs.declared.EfsKey.{EfsKey}
 use Rattle.efskey.specs.declared.EfsKeyRead.{EfsKeyRead}
 use Rattle.efskey.specs.declared.EfsKeyRead.the-variants.{Accepted, Refused}
 use Rattle.efskey.specs.declared.EfsKeyPart.{EfsKeyPart}
 use Rattle.efskey.specs.declared.EfsKeyPart.the-variants.{Sid, Certificate}
-use Rattle.efskey.specs.Layout.{length1, length2, sidOffset, reserved1, certificateLength, certificateOffset, lengthsDisagree, certificateMisplaced, sidMisplaced, gapWithoutSid, areaIn, sidMalformed}
-use Rattle.efskey.specs.Reading.{headChecks, efsKeyChecks, hintOf, shown, efsKeyOf, efsKeyNumber, hintSpan, spanOf, efsKeySpan}
+use Rattle.efskey.specs.Layout.{length1, length2, sidOffset, reserved1, certificateLength, certificateOffset, lengthsDisagree, certificateMisplaced, sidMisplaced, gapWithoutSid, sidArea, sidMalformed, hintIn}
+use Rattle.efskey.specs.Reading.{headChecks, efsKeyChecks, shown, efsKeyOf, efsKeyNumber, spanOf, efsKeySpan}
+use Rattle.efskey.proofs.Hints.{hint-span}
 
 -- the answer of an outcome
 abbrev pub answer : Outcome → EfsKey → EfsKeyRead
@@ -49,7 +50,7 @@ pub record Passed (s : List ℕ) : Type 0 where
   pub place : certificateMisplaced (certificateOffset s) (certificateLength s) (length1 s) ≡ false
   pub offset : sidMisplaced (sidOffset s) ≡ false
   pub gap : gapWithoutSid (sidOffset s) (certificateOffset s) ≡ false
-  pub sid : sidMalformed (areaIn s) ≡ false
+  pub sid : sidMalformed (hintIn s) (sidArea s) ≡ false
 
 pub passed : (s : List ℕ) → firstOf (efsKeyChecks s) ≡ outcome.Accepted → Passed s
 unfolding efsKeyChecks headChecks
@@ -85,17 +86,19 @@ lengths-are s p =
 pub placed : (s : List ℕ) → Passed s → (28 ≤ certificateOffset s) × (4 + certificateOffset s + certificateLength s ≡ length s)
 placed s p = let both = or-false _ _ (p .place) in (ltb-false _ _ (both .0), eqb-true _ _ (not-false _ (both .1)) ∙ lengths-are s p .0)
 
+-- The SID area ends where the certificate begins.
+pub area-length : (s : List ℕ) → Passed s → length (sidArea s) ≡ certificateOffset s - 28
+unfolding sidArea
+area-length s p = length-part s 32 _ (omega (arith, placed s p))
+
 -- Each part lies inside the record.
 pub part-inside : (s : List ℕ) (which : EfsKeyPart) → efsKeySpan s which .at + efsKeySpan s which .len ≤ length s
-unfolding efsKeyOf unlessRefused spanOf hintSpan hintOf
+unfolding efsKeyOf unlessRefused spanOf
 part-inside s which = told (firstOf (efsKeyChecks s)) refl which
   where
-    hinted : (a : SidArea) → Passed s → hintSpan (hintOf (certificateOffset s) a) .at + hintSpan (hintOf (certificateOffset s) a) .len ≤ length s
-    hinted area.None p = omega arith
-    hinted area.Sid p = omega (arith, placed s p)
-    hinted area.Malformed p = omega arith
-
     told : (o : Outcome) → firstOf (efsKeyChecks s) ≡ o → (which : EfsKeyPart) → efsKeySpan s which .at + efsKeySpan s which .len ≤ length s
-    told outcome.Accepted e Sid = rw e (hinted (areaIn s) (passed s e))
+    told outcome.Accepted e Sid =
+        rw (e, hint-span (sidOffset s) (sidArea s))
+        (cond-cases (λ (span : Span). span .at + span .len ≤ length s) (eqb (sidOffset s) 0) (λ _. omega arith) (λ _. omega (arith, placed s (passed s e), area-length s (passed s e))))
     told outcome.Accepted e Certificate = rw e (omega (arith, placed s (passed s e)))
     told (outcome.Refused r) e which = rw e (omega arith)

@@ -9,11 +9,11 @@ use Rattle.wire.specs.Numbers.{leBytes}
 use Rattle.wire.specs.Parts.{partOf, joined, le32Bytes}
 use Rattle.wire.proofs.Numbers.{le-piece}
 use Rattle.wire.proofs.Parts.{piece-part}
-use Rattle.efskey.specs.Layout.{length1, length2, sidOffset, reserved1, certificateLength, certificateOffset, lengthsDisagree, certificateMisplaced, sidMisplaced, gapWithoutSid, sidArea, areaOf, sidMalformed}
+use Rattle.efskey.specs.Layout.{length1, length2, sidOffset, reserved1, certificateLength, certificateOffset, lengthsDisagree, certificateMisplaced, sidMisplaced, gapWithoutSid, sidArea, hintOf, sidMalformed}
 use Rattle.efskey.specs.Reading.{headChecks, efsKeyChecks}
 use Rattle.efskey.specs.Writing.{efsKeyLength, offsetFor, pieces, efsKeyBytes, writeChecks}
 
--- What is written for no SID, or for one, stands where it may.
+-- What is written for no SID, or for some bytes, stands where it may.
 offset-placed : (a : ℕ) → (sidMisplaced (offsetFor a) ≡ false) × (gapWithoutSid (offsetFor a) (28 + a) ≡ false)
 offset-placed a = told (eqb a 0) refl
   where
@@ -84,7 +84,7 @@ module _ (sid certificate : List ℕ) where
   givenChecks =
       (ltb 65535 size ⇒ TooLong)
       ∷ (eqb (length certificate) 0 ⇒ EmptyItem)
-      ∷ (sidMalformed (areaOf (offsetFor (length sid)) sid) ⇒ MalformedSid)
+      ∷ (sidMalformed (hintOf (offsetFor (length sid)) sid) sid ⇒ MalformedSid)
       ∷ []
 
   -- Of the reader's checks on the bytes only 1, 7 and 12 can apply.

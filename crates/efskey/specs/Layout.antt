@@ -1,13 +1,18 @@
--- Document 01, "EfsKey": the numbers of the head, the rules that are made of them, and the SID area. Both offsets count from
--- byte 4; sums are whole numbers.
+-- Document 01, "EfsKey", with No. 2 of document 02: the numbers of the head, the rules that are made of them, and the SID area. Both
+-- offsets count from byte 4; sums are whole numbers.
 use Prim.Native.Nat.{ℕ, _+_, _-_}
-use mathlib.Core.Bool.{Bool, true, false, not, cond, _&&_, _||_}
+use mathlib.Core.Bool.{Bool, false, not, cond, _&&_, _||_}
 use mathlib.Core.List.{List}
-use lib.Dec.{ltb, eqb}
+use lib.Dec.{leb, ltb, eqb}
+use lib.ListN.{length, getD}
+use Rattle.lemmas.specs.Counting.{every}
+use Rattle.wire.specs.declared.Span.{Span}
 use Rattle.wire.specs.Parts.{partOf, leAt}
 use Rattle.sid.specs.Rule.{isSid}
+use Rattle.efskey.specs.declared.SidHint.{SidHint}
+use Rattle.efskey.specs.declared.SidHint.the-variants.{None, Sid, NoHint}
 use Rattle.efskey.specs.declared.SidArea.{SidArea}
-use Rattle.efskey.specs.declared.SidArea.the-variants.{None, Sid, Malformed}
+use Rattle.efskey.specs.declared.SidArea.the-variants.{Holds, Malformed}
 
 -- Length1 at 0, Length2 at 4, SID offset at 8, Reserved1 at 12, certificate length at 16, certificate offset at 20
 abbrev pub length1 : List ℕ → ℕ
@@ -48,15 +53,31 @@ gapWithoutSid sid offset = eqb sid 0 && not (eqb offset 28)
 unfoldable pub sidArea : List ℕ → List ℕ
 sidArea s = partOf s 32 (certificateOffset s - 28)
 
--- what the SID area holds: nothing where the SID offset is 0, else one SID, or it is malformed
+-- No. 2, no hint given: a SID area of at least one byte that is all zeros, of any length
+unfoldable pub allZeros : List ℕ → Bool
+allZeros area = every (length area) (λ k. eqb (getD area k 0) 0)
+
+unfoldable pub isNoHint : List ℕ → Bool
+isNoHint area = leb 1 (length area) && allZeros area
+
+-- where those bytes stand
+abbrev pub areaSpan : List ℕ → Span
+areaSpan area = record { at = 32; len = length area }
+
+-- what an EfsKey has of a SID: none where the SID offset is 0, else no hint, or what is to be a SID, each with its place and length
+unfoldable pub hintOf : ℕ → List ℕ → SidHint
+hintOf offset area = cond (eqb offset 0) None (cond (isNoHint area) (NoHint (areaSpan area)) (Sid (areaSpan area)))
+
+-- 12: what is to be a SID is none, by the rule of document 01, which No. 2 leaves as it is
+unfoldable pub sidMalformed : SidHint → List ℕ → Bool
+sidMalformed None area = false
+sidMalformed (Sid span) area = not (isSid area)
+sidMalformed (NoHint span) area = false
+
+-- what judging the area answers
 unfoldable pub areaOf : ℕ → List ℕ → SidArea
-areaOf offset area = cond (eqb offset 0) None (cond (isSid area) Sid Malformed)
+areaOf offset area = cond (sidMalformed (hintOf offset area) area) Malformed (Holds (hintOf offset area))
 
-abbrev pub areaIn : List ℕ → SidArea
-areaIn s = areaOf (sidOffset s) (sidArea s)
-
--- 12: the area is malformed
-unfoldable pub sidMalformed : SidArea → Bool
-sidMalformed None = false
-sidMalformed Sid = false
-sidMalformed Malformed = true
+-- of a record
+abbrev pub hintIn : List ℕ → SidHint
+hintIn s = hintOf (sidOffset s) (sidArea s)

@@ -1,5 +1,5 @@
--- Document 01, "EfsKey": what the reader answers.
-use Prim.Native.Nat.{ℕ, _+_, _-_}
+-- Document 01, "EfsKey", with No. 2 of document 02: what the reader answers.
+use Prim.Native.Nat.{ℕ, _+_}
 use mathlib.Core.Bool.{not}
 use mathlib.Core.List.{List, [], _∷_, _++_}
 use lib.Dec.{ltb, eqb}
@@ -9,8 +9,6 @@ use Rattle.refusal.specs.Number.{numberOf}
 use Rattle.refusal.specs.Chain.{Check, _⇒_, firstOf, unlessRefused}
 use Rattle.wire.specs.declared.Span.{Span}
 use Rattle.wire.specs.Parts.{partOf}
-use Rattle.efskey.specs.declared.SidArea.{SidArea}
-use Rattle.efskey.specs.declared.SidArea.the-variants as area
 use Rattle.efskey.specs.declared.SidHint.{SidHint}
 use Rattle.efskey.specs.declared.SidHint.the-variants as hint
 use Rattle.efskey.specs.declared.EfsKey.{EfsKey}
@@ -18,7 +16,7 @@ use Rattle.efskey.specs.declared.EfsKeyRead.{EfsKeyRead}
 use Rattle.efskey.specs.declared.EfsKeyRead.the-variants.{Accepted, Refused}
 use Rattle.efskey.specs.declared.EfsKeyPart.{EfsKeyPart}
 use Rattle.efskey.specs.declared.EfsKeyPart.the-variants as part
-use Rattle.efskey.specs.Layout.{length1, length2, sidOffset, reserved1, certificateLength, certificateOffset, lengthsDisagree, certificateMisplaced, sidMisplaced, gapWithoutSid, areaIn, sidMalformed}
+use Rattle.efskey.specs.Layout.{length1, length2, sidOffset, reserved1, certificateLength, certificateOffset, lengthsDisagree, certificateMisplaced, sidMisplaced, gapWithoutSid, sidArea, sidMalformed, hintIn}
 
 unfoldable pub headChecks : List ℕ → List Check
 headChecks s =
@@ -42,20 +40,14 @@ headChecks s =
 unfoldable pub efsKeyChecks : List ℕ → List Check
 efsKeyChecks s =
     headChecks s
-    -- if the SID offset is 28, 12 unless the bytes from 32 to the certificate are one SID
-    ++ ((sidMalformed (areaIn s) ⇒ MalformedSid) ∷ [])
+    -- if the SID offset is 28, 12 unless the bytes from 32 to the certificate are at least one and all zeros, or one SID
+    ++ ((sidMalformed (hintIn s) (sidArea s) ⇒ MalformedSid) ∷ [])
 
--- what an accepted record shows of its SID area: an absent SID has no span
-unfoldable pub hintOf : ℕ → SidArea → SidHint
-hintOf offset area.None = hint.None
-hintOf offset area.Sid = hint.Sid (record { at = 32; len = offset - 28 })
-hintOf offset area.Malformed = hint.None
-
-abbrev pub shownWith : List ℕ → SidArea → EfsKey
-shownWith s area = record { sid = hintOf (certificateOffset s) area; certificate = record { at = 4 + certificateOffset s; len = certificateLength s } }
+abbrev pub shownWith : List ℕ → SidHint → EfsKey
+shownWith s sid = record { sid = sid; certificate = record { at = 4 + certificateOffset s; len = certificateLength s } }
 
 abbrev pub shown : List ℕ → EfsKey
-shown s = shownWith s (areaIn s)
+shown s = shownWith s (hintIn s)
 
 -- what the reader answers
 unfoldable pub efsKeyOf : List ℕ → EfsKeyRead
@@ -66,10 +58,11 @@ unfoldable pub efsKeyNumber : EfsKeyRead → ℕ
 efsKeyNumber (Accepted key) = 0
 efsKeyNumber (Refused r) = numberOf r
 
--- the kind of SID: 1 where one is shown, 0 where there is none and on a refusal
+-- the kind of SID: 1 where one is shown, 2 where no hint is given, 0 where there is none and on a refusal
 unfoldable pub hintKind : SidHint → ℕ
 hintKind hint.None = 0
 hintKind (hint.Sid span) = 1
+hintKind (hint.NoHint span) = 2
 
 unfoldable pub sidKind : EfsKeyRead → ℕ
 sidKind (Accepted key) = hintKind (key .sid)
@@ -79,6 +72,7 @@ sidKind (Refused r) = 0
 unfoldable pub hintSpan : SidHint → Span
 hintSpan hint.None = record { at = 0; len = 0 }
 hintSpan (hint.Sid span) = span
+hintSpan (hint.NoHint span) = span
 
 unfoldable pub spanOf : EfsKeyRead → EfsKeyPart → Span
 spanOf (Accepted key) part.Sid = hintSpan (key .sid)

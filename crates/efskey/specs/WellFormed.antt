@@ -1,15 +1,21 @@
--- MS-GPEF 2.2.1.2.2, narrowed by document 01: when an EfsKey is well formed, without an order of checks.
-use Prim.Native.Nat.{ℕ, _+_, _≤_}
+-- MS-GPEF 2.2.1.2.2, narrowed by document 01, with No. 2 of document 02: when an EfsKey is well formed, without an order of checks.
+use Prim.Native.Nat.{ℕ, _+_, _≤_, _<_}
 use mathlib.Core.List.{List, [], _∷_}
 use mathlib.Core.Path.{_≡_}
-use lib.ListN.{length}
+use lib.ListN.{length, getD}
 use Rattle.wire.specs.Parts.{partOf}
 use Rattle.sid.specs.WellFormed as sid
 use Rattle.efskey.specs.Layout.{length1, length2, sidOffset, certificateLength, certificateOffset, sidArea}
 
--- SID, optional: absent, with the certificate straight behind the head; or one SID from byte 32 to the certificate
+-- all of them zero
+abbrev pub Zeros : List ℕ → Type 0
+Zeros bytes = (k : ℕ) → k < length bytes → getD bytes k 0 ≡ 0
+
+-- SID, optional: absent, with the certificate straight behind the head; or from byte 32 to the certificate zero bytes, one at least,
+-- which give no hint; or one SID there
 pub data SidField (s : List ℕ) : Type 0 where
   absent : sidOffset s ≡ 0 → certificateOffset s ≡ 28 → SidField s
+  no-hint : sidOffset s ≡ 28 → 1 ≤ length (sidArea s) → Zeros (sidArea s) → SidField s
   present : sidOffset s ≡ 28 → sid.WellFormed (sidArea s) → SidField s
 
 pub record WellFormed (s : List ℕ) : Type 0 where

@@ -1,4 +1,4 @@
--- Document 01, "EfsKey": what the writer makes and answers.
+-- Document 01, "EfsKey", with No. 2 of document 02: what the writer makes and answers.
 use Prim.Native.Nat.{ℕ, _+_, _-_}
 use mathlib.Core.Bool.{cond}
 use mathlib.Core.List.{List, [], _∷_}
@@ -15,7 +15,7 @@ use Rattle.efskey.specs.Reading.{efsKeyChecks}
 abbrev pub efsKeyLength : List ℕ → List ℕ → ℕ
 efsKeyLength sid certificate = 32 + length sid + length certificate
 
--- an empty SID means none: SID offset 0; else it stands at byte 32, and offsets count from byte 4
+-- an empty SID means none: SID offset 0; else it stands at byte 32, zeros too, and offsets count from byte 4
 abbrev pub offsetFor : ℕ → ℕ
 offsetFor len = cond (eqb len 0) 0 28
 

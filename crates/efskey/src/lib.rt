@@ -1,4 +1,4 @@
-// Document 01, "EfsKey" (MS-GPEF 2.2.1.2.2), read and written.
+// Document 01, "EfsKey" (MS-GPEF 2.2.1.2.2), with No. 2 of document 02: read and written.
 ghost use mathlib.Core.Path.{_≡_};
 ghost use mathlib.Core.Bool.{_||_};
 ghost use Prim.Native.Nat.{_+_, _-_, _≤_};
@@ -6,8 +6,8 @@ ghost use lib.ListN.{length};
 ghost use Rattle.refusal.specs.Chain.{firstOf};
 ghost use Rattle.wire.specs.Parts.{onto};
 ghost use Rattle.records.specs.Writing.{outputOf};
-ghost use Rattle.efskey.specs.Layout.{lengthsDisagree, certificateMisplaced, sidMisplaced, gapWithoutSid, areaOf, areaIn, sidMalformed};
-ghost use Rattle.efskey.specs.Reading.{headChecks, hintOf, shownWith, efsKeyOf, hintSpan, spanOf, efsKeySpan, efsKeyPart};
+ghost use Rattle.efskey.specs.Layout.{lengthsDisagree, certificateMisplaced, sidMisplaced, gapWithoutSid, sidArea, allZeros, isNoHint, areaOf};
+ghost use Rattle.efskey.specs.Reading.{headChecks, shownWith, efsKeyOf, hintKind, hintSpan, spanOf, efsKeySpan, efsKeyPart};
 ghost use Rattle.efskey.specs.Writing.{efsKeyLength, offsetFor, efsKeyBytes, writeChecks, efsKeyWritten};
 use records::LIMIT;
 use records::Written;
@@ -20,16 +20,17 @@ use wire::copy_into;
 use wire::le32_at;
 use wire::put_le32s;
 
-// An accepted EfsKey: its SID, if it has one, and where the certificate stands, counted from byte 0 of the record.
+// An accepted EfsKey: what it has of a SID, and where the certificate stands, counted from byte 0 of the record.
 pub struct EfsKey {
     pub sid: SidHint,
     pub certificate: Span,
 }
 
-// The SID of an EfsKey: a hint on who made the key, which may be absent.
+// What an EfsKey has of a SID, a hint on who made the key: none, one, or zero bytes in its place, which give no hint.
 pub enum SidHint {
     None,
     Sid(Span),
+    NoHint(Span),
 }
 
 // What reading an EfsKey answers.
@@ -44,14 +45,24 @@ pub enum EfsKeyPart {
     Certificate,
 }
 
-// What stands between the head and the certificate: nothing, one SID, or something else.
+// What a SID area holds: one of these, or what is none of them.
 enum SidArea {
-    None,
-    Sid,
+    Holds(SidHint),
     Malformed,
 }
 
 impl SidHint {
+    // The kind that a host is told.
+    pub fn kind(self) -> u32
+        ensures { λ r. ⌜ r ≡ hintKind self ⌝ }
+    {
+        match self {
+            SidHint::None => 0,
+            SidHint::Sid(_) => 1,
+            SidHint::NoHint(_) => 2,
+        }
+    }
+
     // An absent SID is empty at 0.
     pub fn span(self) -> Span
         ensures { λ r. ⌜ r ≡ hintSpan self ⌝ }
@@ -59,7 +70,31 @@ impl SidHint {
         match self {
             SidHint::None => Span { at: 0, len: 0 },
             SidHint::Sid(span) => span,
+            SidHint::NoHint(span) => span,
         }
+    }
+}
+
+impl SidArea {
+    // What the bytes of the area are, with that SID offset. Zeros are the EfsKey's own: the SID rule stays document 01's, for whoever
+    // else asks it. No bytes are both, as a SID's first is 1; told first, it is spared the pass.
+    fn of(offset: u32, area: &[u8]) -> SidArea
+        ensures { λ r. ⌜ r ≡ areaOf offset (now (area .entry)) ⌝ }
+    {
+        if offset == 0 {
+            return SidArea::Holds(SidHint::None);
+        }
+        let span = Span {
+            at: 32,
+            len: area.len(),
+        };
+        if is_sid(area) {
+            return SidArea::Holds(SidHint::Sid(span));
+        }
+        if is_no_hint(area) {
+            return SidArea::Holds(SidHint::NoHint(span));
+        }
+        SidArea::Malformed
     }
 }
 
@@ -89,11 +124,10 @@ pub fn read(s: &[u8]) -> EfsKeyRead
     if let Outcome::Refused(refusal) = judge_head(s) {
         return EfsKeyRead::Refused(refusal);
     }
-    let area = area_in(s);
-    if area.is_malformed() {
-        return EfsKeyRead::Refused(Refusal::MalformedSid);
+    match SidArea::of(le32_at(s, 8), area_in(s)) {
+        SidArea::Holds(sid) => EfsKeyRead::Accepted(shown(s, sid)),
+        SidArea::Malformed => EfsKeyRead::Refused(Refusal::MalformedSid),
     }
-    EfsKeyRead::Accepted(shown(s, area))
 }
 
 // The checks before the SID area's, in document 01's order; a number is read just before its check.
@@ -145,18 +179,18 @@ fn is_misplaced(sid: u32, offset: u32, certificate: u32, total: u32) -> bool
     (sid != 0) | (offset != 28)
 }
 
-// What the SID area holds.
-fn area_in(s: &[u8]) -> SidArea
-    ensures { λ r. ⌜ r ≡ areaIn (now (s .entry)) ⌝ }
+// The SID area, from 32 to the certificate.
+fn area_in(s: &[u8]) -> &[u8]
+    ensures { λ r. ⌜ now r ≡ sidArea (now (s .entry)) ⌝ }
 {
     let span = Span {
         at: 32,
         len: area_length(le32_at(s, 20)),
     };
-    SidArea::of(le32_at(s, 8), wire::part(s, span))
+    wire::part(s, span)
 }
 
-// The SID area, from 32 to a certificate with this offset, has this many bytes.
+// With this certificate offset it has this many bytes.
 fn area_length(offset: u32) -> usize
     ensures { λ r. ⌜ r ≡ offset - 28 ⌝ }
 {
@@ -166,57 +200,39 @@ fn area_length(offset: u32) -> usize
     offset as usize - 28
 }
 
-impl SidArea {
-    // What the bytes of the SID area are, with that SID offset.
-    fn of(offset: u32, area: &[u8]) -> SidArea
-        ensures { λ r. ⌜ r ≡ areaOf offset (now (area .entry)) ⌝ }
-    {
-        if offset == 0 {
-            return SidArea::None;
-        }
-        if is_sid(area) {
-            return SidArea::Sid;
-        }
-        SidArea::Malformed
+// At least one byte, and all of them zero.
+fn is_no_hint(area: &[u8]) -> bool
+    ensures { λ r. ⌜ r ≡ isNoHint (now (area .entry)) ⌝ }
+{
+    if area.len() == 0 {
+        return false;
     }
-
-    // 12.
-    fn is_malformed(self) -> bool
-        ensures { λ r. ⌜ r ≡ sidMalformed self ⌝ }
-    {
-        match self {
-            SidArea::None => false,
-            SidArea::Sid => false,
-            SidArea::Malformed => true,
-        }
-    }
+    are_zeros(area)
 }
 
-// What an accepted record with this SID area shows.
-fn shown(s: &[u8], area: SidArea) -> EfsKey
-    ensures { λ r. ⌜ r ≡ shownWith (now (s .entry)) area ⌝ }
+// All bytes in one pass: their bits are gathered, and none is set.
+fn are_zeros(area: &[u8]) -> bool
+    ensures { λ r. ⌜ r ≡ allZeros (now (area .entry)) ⌝ }
 {
-    let offset = le32_at(s, 20);
+    let mut any = 0;
+    let mut at = 0;
+    while at < area.len() {
+        any = any | area[at];
+        at += 1;
+    }
+    any == 0
+}
+
+// What an accepted record shows, with what it has of a SID.
+fn shown(s: &[u8], sid: SidHint) -> EfsKey
+    ensures { λ r. ⌜ r ≡ shownWith (now (s .entry)) sid ⌝ }
+{
     EfsKey {
-        sid: hint(offset, area),
+        sid,
         certificate: Span {
-            at: 4 + offset as usize,
+            at: 4 + le32_at(s, 20) as usize,
             len: le32_at(s, 16) as usize,
         },
-    }
-}
-
-// What it shows of its SID.
-fn hint(offset: u32, area: SidArea) -> SidHint
-    ensures { λ r. ⌜ r ≡ hintOf offset area ⌝ }
-{
-    match area {
-        SidArea::None => SidHint::None,
-        SidArea::Sid => SidHint::Sid(Span {
-            at: 32,
-            len: area_length(offset),
-        }),
-        SidArea::Malformed => SidHint::None,
     }
 }
 
@@ -228,8 +244,8 @@ pub fn part(s: &[u8], which: EfsKeyPart) -> &[u8]
     wire::part(s, read(s).span(which))
 }
 
-// Writes an EfsKey of a SID, empty for none, and a certificate: what is given is judged, then 13. A refusal keeps the output's
-// bytes; success keeps those behind the record.
+// Writes an EfsKey of a SID, which is empty for none or zeros for no hint, and a certificate: what is given is judged, then 13. A
+// refusal keeps the output's bytes; success keeps those behind the record.
 pub fn write(out: &mut [u8], sid: &[u8], certificate: &[u8]) -> Written
     ensures answer { λ r. ⌜ r ≡ efsKeyWritten (now (sid .entry)) (now (certificate .entry)) (length (now (out .entry))) ⌝ }
     ensures output { λ r. ⌜ now (out .exit) ≡ outputOf r (efsKeyBytes (now (sid .entry)) (now (certificate .entry))) (now (out .entry)) ⌝ }
@@ -255,11 +271,10 @@ fn judge_given(sid: &[u8], certificate: &[u8]) -> Outcome
     if certificate.len() == 0 {
         return Outcome::Refused(Refusal::EmptyItem);
     }
-    let area = SidArea::of(offset_for(sid.len()), sid);
-    if area.is_malformed() {
-        return Outcome::Refused(Refusal::MalformedSid);
+    match SidArea::of(offset_for(sid.len()), sid) {
+        SidArea::Holds(_) => Outcome::Accepted,
+        SidArea::Malformed => Outcome::Refused(Refusal::MalformedSid),
     }
-    Outcome::Accepted
 }
 
 // An empty SID means none: SID offset 0.

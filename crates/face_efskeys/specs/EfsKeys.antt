@@ -1,4 +1,4 @@
--- Document 01, "EfsKey", as C has its answer.
+-- Document 01, "EfsKey", with No. 2 of document 02, as C has its answer.
 use Rattle.efskey.specs.declared.EfsKeyRead.{EfsKeyRead}
 use Rattle.efskey.specs.declared.EfsKeyPart.the-variants as part
 use Rattle.efskey.specs.Reading.{efsKeyNumber, sidKind, spanOf}

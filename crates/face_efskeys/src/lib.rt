@@ -1,14 +1,14 @@
-// Document 01, "EfsKey", as C has its answer: one function for each way that it ends.
+// Document 01, "EfsKey", with No. 2 of document 02, as C has its answer: one function for each way that it ends.
 ghost use mathlib.Core.Path.{_≡_};
-ghost use Rattle.efskey.specs.declared.SidHint.the-variants.{None, Sid};
 ghost use Rattle.efskey.specs.declared.EfsKeyRead.the-variants.{Accepted, Refused};
 ghost use Rattle.face_efskeys.specs.EfsKeys.{efsKeyAnswer};
+use efskey::SidHint;
 use face::Part;
 use face::to_part;
 use refusal::Refusal;
 use wire::Span;
 
-// An EfsKey. The kind of its SID is 1 for a SID, 0 for none.
+// An EfsKey. The kind of its SID is 0 for none, 1 for a SID, 2 where zeros in its place give no hint.
 #[repr(C)]
 pub struct EfsKeyAnswer {
     pub refusal: u32,
@@ -17,26 +17,14 @@ pub struct EfsKeyAnswer {
     pub certificate: Part,
 }
 
-// Accepted, with a SID.
-pub fn with_sid(sid: Span, certificate: Span) -> EfsKeyAnswer
-    ensures { λ r. ⌜ r ≡ efsKeyAnswer (Accepted (record { sid = Sid sid; certificate = certificate })) ⌝ }
+// Accepted, with what it has of a SID.
+pub fn efskey_accepted(sid: SidHint, certificate: Span) -> EfsKeyAnswer
+    ensures { λ r. ⌜ r ≡ efsKeyAnswer (Accepted (record { sid = sid; certificate = certificate })) ⌝ }
 {
     EfsKeyAnswer {
         refusal: 0,
-        kind: 1,
-        sid: to_part(sid),
-        certificate: to_part(certificate),
-    }
-}
-
-// Accepted, without a SID.
-pub fn without_sid(certificate: Span) -> EfsKeyAnswer
-    ensures { λ r. ⌜ r ≡ efsKeyAnswer (Accepted (record { sid = None; certificate = certificate })) ⌝ }
-{
-    EfsKeyAnswer {
-        refusal: 0,
-        kind: 0,
-        sid: Part { at: 0, len: 0 },
+        kind: sid.kind(),
+        sid: to_part(sid.span()),
         certificate: to_part(certificate),
     }
 }

@@ -18,7 +18,7 @@ use Rattle.keys.specs.declared.Form.the-variants as form
 use Rattle.keys.specs.KeyRule.{keysAllowed, l1KeyAllowed, l2KeyAllowed, keyChecks}
 use Rattle.keys.specs.Forms.{keysOf, seedForm, seedChecks}
 use Rattle.reach.specs.Reached.{ofGroup, l1Reaches, l2Reaches, reaches}
-use Rattle.lemmas.specs.Counting.{bit, count}
+use Rattle.lemmas.specs.Counting.{bit, count, every}
 use Rattle.reach.specs.Bits.{bitAt, rowWhere, table}
 use Rattle.reach.specs.Maps.{rowOf, mapOf, emptyMap, totalOf}
 use Rattle.reach.specs.Reaches.{keysReach, refusedReach, formReach, reachTotal}
@@ -31,7 +31,7 @@ use Rattle.getkey.specs.declared.Answer.{Answer}
 use Rattle.request.specs.Indices.{below, outside, outOfRange, unset, mixed, laterThenZ, laterThanNow, names, indexChecks, natural, namedOf}
 use Rattle.request.specs.Narrowed.{narrowedOf}
 use Rattle.roottable.specs.Rows.{tableWrong, rowAt, suitable, rank}
-use Rattle.roottable.specs.Selection.{every, orElse, firstWhere, firstHighest, chosenRow}
+use Rattle.roottable.specs.Selection.{orElse, firstWhere, firstHighest, chosenRow}
 use Rattle.getkey.specs.Deciding.{rightsTooLow, checks, grantedAt, formFor, wantedOf, withoutRow, withRow, granting, decision, answerNumber, answerAt, answerForm, answerCreates}
 use Rattle.getkey.specs.Waiting.{height, NoWorse}
 use Rattle.getkey.proofs.DemandThree.{waiting-loses-nothing}

@@ -1,4 +1,4 @@
-// Document 01, "EfsKey", for C.
+// Document 01, "EfsKey", with No. 2 of document 02, for C.
 ghost use mathlib.Core.Path.{_≡_};
 ghost use lib.ListN.{length};
 ghost use Rattle.records.specs.Writing.{outputOf};
@@ -7,13 +7,11 @@ ghost use Rattle.efskey.specs.Writing.{efsKeyBytes, efsKeyWritten};
 ghost use Rattle.face.specs.Shapes.{writtenAnswer};
 ghost use Rattle.face_efskeys.specs.EfsKeys.{efsKeyAnswer};
 use efskey::EfsKeyRead;
-use efskey::SidHint;
 use face::WrittenAnswer;
 use face::to_written;
 use face_efskeys::EfsKeyAnswer;
+use face_efskeys::efskey_accepted;
 use face_efskeys::efskey_refused;
-use face_efskeys::with_sid;
-use face_efskeys::without_sid;
 
 #[no_mangle]
 pub extern "C" fn gw_efskey_read(s: &[u8]) -> EfsKeyAnswer
@@ -23,14 +21,7 @@ pub extern "C" fn gw_efskey_read(s: &[u8]) -> EfsKeyAnswer
         EfsKeyRead::Accepted(key) => {
             let sid = key.sid;
             let certificate = key.certificate;
-            match sid {
-                SidHint::None => {
-                    return without_sid(certificate);
-                }
-                SidHint::Sid(span) => {
-                    return with_sid(span, certificate);
-                }
-            }
+            return efskey_accepted(sid, certificate);
         }
         EfsKeyRead::Refused(refusal) => {
             return efskey_refused(refusal);

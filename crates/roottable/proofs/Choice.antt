@@ -3,14 +3,16 @@
 use Rattle.lemmas.proofs.Basics.{ℕ, zero, suc, _≤_, _<_, arith, Bool, true, false, cond, not, _&&_, _||_, true≢false, false≢true, List, _≡_, refl, sym, subst, _∙_, length, ltb, leb, ltb-true, ltb-false, le-leb, leb-true, below-more}
 use Rattle.refusal.specs.declared.Refusal.the-variants.{TableLength}
 use Rattle.refusal.specs.Number.{numberOf}
+use Rattle.lemmas.specs.Counting.{every}
 use Rattle.lemmas.proofs.Cases.{by-cases, cond-cases, both-true}
+use Rattle.lemmas.proofs.Counting.{every-all, all-every}
 use Rattle.roottable.specs.declared.Wanted.{Wanted}
 use Rattle.roottable.specs.declared.Found.{Found}
 use Rattle.roottable.specs.declared.Found.the-variants as found
 use Rattle.roottable.specs.declared.Best.{Best}
 use Rattle.roottable.specs.declared.Best.the-variants as best
 use Rattle.roottable.specs.Rows.{tableWrong, rowAt, rowCount, suitable, rank}
-use Rattle.roottable.specs.Selection.{every, orElse, firstWhere, firstHighest, chosenRow, foundNumber, foundAny, foundRow, tableNumber}
+use Rattle.roottable.specs.Selection.{orElse, firstWhere, firstHighest, chosenRow, foundNumber, foundAny, foundRow, tableNumber}
 use Rattle.roottable.specs.Passing.{better, stepOf}
 
 -- of n places, k is suitable, no suitable one is higher, and none before it as high
@@ -27,18 +29,6 @@ abbrev pub Says : ℕ → (ℕ → Bool) → (ℕ → ℕ) → Found → Type 0
 Says n suits height (found.Row k) = Chosen n suits height k
 Says n suits height found.None = NoneSuits n suits
 Says n suits height (found.Refused r) = ⊥
-
-every-all : (n : ℕ) (test : ℕ → Bool) → every n test ≡ true → (j : ℕ) → j < n → test j ≡ true
-unfolding every
-every-all zero test e j h = absurd (omega arith)
-every-all (suc n) test e j h =
-    let both = both-true (every n test) (test n) e in
-    below-more (λ j. test j ≡ true) n (every-all n test (both .0)) (both .1) j (omega arith)
-
-all-every : (n : ℕ) (test : ℕ → Bool) → ((j : ℕ) → j < n → test j ≡ true) → every n test ≡ true
-unfolding every
-all-every zero test all = refl
-all-every (suc n) test all = rw (all-every n test (λ j h. all j (omega arith)), all n (omega arith))
 
 first-none : (n : ℕ) (test : ℕ → Bool) → ((j : ℕ) → j < n → test j ≡ false) → firstWhere n test ≡ found.None
 unfolding firstWhere orElse

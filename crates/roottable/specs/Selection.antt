@@ -4,17 +4,13 @@ use mathlib.Core.Bool.{Bool, true, false, cond, not, _&&_, _||_}
 use mathlib.Core.List.{List}
 use lib.Dec.{leb}
 use lib.ListN.{length}
+use Rattle.lemmas.specs.Counting.{every}
 use Rattle.refusal.specs.declared.Refusal.the-variants.{TableLength}
 use Rattle.refusal.specs.Number.{numberOf}
 use Rattle.roottable.specs.declared.Wanted.{Wanted}
 use Rattle.roottable.specs.declared.Found.{Found}
 use Rattle.roottable.specs.declared.Found.the-variants as found
 use Rattle.roottable.specs.Rows.{tableWrong, rowAt, rowCount, suitable, rank}
-
--- the test holds of every number below n
-unfoldable pub every : ℕ → (ℕ → Bool) → Bool
-every zero test = true
-every (suc n) test = every n test && test n
 
 unfoldable pub orElse : Found → Found → Found
 orElse found.None other = other

@@ -1,4 +1,4 @@
-// Document 01, "EfsKey": keys read and written. Each case is a line: its name, then what the library answers. The file `stdout`
+// Document 01, "EfsKey", with No. 2 of document 02: keys read and written. Each case is a line: its name, then what the library answers. The file `stdout`
 // beside src/ holds what the paper says.
 mod reader;
 mod writer;

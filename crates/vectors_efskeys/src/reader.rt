@@ -12,6 +12,8 @@ pub fn run() {
     heads();
     places();
     sids();
+    zeros();
+    near_zeros();
     orders();
 }
 
@@ -79,6 +81,35 @@ fn sids() {
     key(b"key: SID of revision 0: ", 45, 28, 1, 40, 0, 1);
 }
 
+// At least one byte, and all zeros: no hint. An area of 0 stays above, with 12.
+fn zeros() {
+    plain(b"key: 1 zero: ", 34, 28, 1, 29);
+    plain(b"key: 7 zeros: ", 40, 28, 1, 35);
+    plain(b"key: 8 zeros: ", 41, 28, 1, 36);
+    plain(b"key: 68 zeros: ", 101, 28, 1, 96);
+    plain(b"key: the most zeros: ", 65_535, 28, 1, 65_530);
+    plain(b"key: zeros, the SID at 32: ", 45, 32, 1, 40);
+    plain(b"key: zeros, but no SID: ", 45, 0, 1, 40);
+}
+
+// One byte that is not zero, and the SID rule decides: an area of 8 that begins with 1, or of 12 with 1, 1, is a SID.
+fn near_zeros() {
+    marked(32);
+    marked(33);
+    marked(34);
+    marked(35);
+    marked(36);
+    marked(37);
+    marked(38);
+    marked(39);
+    marked(40);
+    marked(41);
+    marked(42);
+    marked(43);
+    area(b"key: SID of 0, its authority zero: ", 41, 1, 36, &[1]);
+    area(b"key: SID of 1, all else zero: ", 45, 1, 40, &[1, 1]);
+}
+
 // Two refusals apply: the first is the answer.
 fn orders() {
     headed(b"key: 2 before 3: ", 31, [0; 8]);
@@ -99,6 +130,23 @@ fn key(name: &[u8], len: u32, sid: u32, n: u32, c: u32, revision: u8, count: u8)
     cases::numbers(&mut s, 0, &head(len, sid, n, c));
     put_sid(&mut s, 32, revision, count);
     print(read(Line::new().text(name), cases::first(&s, len as usize)));
+}
+
+// A SID area with these bytes first and zeros behind them, and a certificate of n at the offset c.
+fn area(name: &[u8], len: u32, n: u32, c: u32, first: &[u8]) {
+    let mut s = io::large_buffer();
+    cases::numbers(&mut s, 0, &head(len, 28, n, c));
+    cases::bytes(&mut s, 32, first);
+    print(read(Line::new().text(name), cases::first(&s, len as usize)));
+}
+
+// A record of 45 bytes, with a SID area of 12 zeros but for a 1 at that byte of the record.
+fn marked(at: usize) {
+    let mut s = io::large_buffer();
+    cases::numbers(&mut s, 0, &head(45, 28, 1, 40));
+    cases::bytes(&mut s, at, &[1]);
+    let name = Line::new().text(b"key: 12 zeros, 1 at ").number(at as u64);
+    print(read(name.text(b": "), cases::first(&s, 45)));
 }
 
 fn head(len: u32, sid: u32, n: u32, c: u32) -> [u32; 8] {
@@ -137,5 +185,6 @@ fn hinted(line: Line, sid: SidHint) -> Line {
     match sid {
         SidHint::None => line.text(b"NO SID"),
         SidHint::Sid(span) => words::span(line.text(b"SID "), span),
+        SidHint::NoHint(span) => words::span(line.text(b"NO HINT "), span),
     }
 }

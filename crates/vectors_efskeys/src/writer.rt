@@ -10,9 +10,15 @@ use wire::Span;
 
 pub fn run() {
     lengths();
+    zeros();
+    near_zeros();
     orders();
-    rewritten(b"key rewritten: ", 0);
-    rewritten(b"key rewritten, Reserved2 set: ", 1);
+    let mut sid = [0; 12];
+    rewritten(b"key with no hint rewritten: ", 0, &sid);
+    rewritten(b"key with no hint rewritten, Reserved2 set: ", 1, &sid);
+    put_sid(&mut sid, 0, 1, 1);
+    rewritten(b"key rewritten: ", 0, &sid);
+    rewritten(b"key rewritten, Reserved2 set: ", 1, &sid);
 }
 
 fn lengths() {
@@ -41,19 +47,77 @@ fn orders() {
     write(b"key writer: 12 before 13: ", 0, 2, 0, 8, 1);
 }
 
+// Zeros, one at least: they are written, and read back as no hint.
+fn zeros() {
+    zeroed(b"key writer: 1 zero: ", 64, 1, 1);
+    zeroed(b"key writer: 7 zeros: ", 64, 7, 1);
+    zeroed(b"key writer: 8 zeros: ", 64, 8, 1);
+    zeroed(b"key writer: 68 zeros: ", 128, 68, 1);
+    zeroed(b"key writer: the most zeros: ", 65_535, 65_502, 1);
+    zeroed(b"key writer: a zero more: ", 65_536, 65_503, 1);
+    zeroed(b"key writer: zeros, certificate of 0: ", 64, 12, 0);
+    zeroed(b"key writer: zeros, a byte short: ", 44, 12, 1);
+}
+
+// One byte that is not zero, and the SID rule decides.
+fn near_zeros() {
+    marked(0);
+    marked(1);
+    marked(2);
+    marked(3);
+    marked(4);
+    marked(5);
+    marked(6);
+    marked(7);
+    marked(8);
+    marked(9);
+    marked(10);
+    marked(11);
+    given(
+        b"key writer: SID of 0, its authority zero: ",
+        64,
+        &[1, 0, 0, 0, 0, 0, 0, 0],
+        1,
+    );
+    given(
+        b"key writer: SID of 1, all else zero: ",
+        64,
+        &[1, 1, 0, 0, 0, 0, 0, 0, 0, 0, 0, 0],
+        1,
+    );
+}
+
 // A record written into `room` bytes, with a SID of k bytes and a certificate of n.
 fn write(name: &[u8], room: usize, revision: u8, count: u8, k: usize, n: usize) {
     let mut sid = io::large_buffer();
-    let certificate = [99; 65536];
-    let mut out = [FILL; 64];
     put_sid(&mut sid, 0, revision, count);
-    print(written(
-        Line::new().text(name),
-        &mut out,
-        room,
-        cases::first(&sid, k),
-        cases::first(&certificate, n),
-    ));
+    given(name, room, cases::first(&sid, k), n);
+}
+
+// The same, with k zeros for a SID.
+fn zeroed(name: &[u8], room: usize, k: usize, n: usize) {
+    let zeros = io::large_buffer();
+    given(name, room, cases::first(&zeros, k), n);
+}
+
+// The same, with 12 zeros but for a 1 at that place.
+fn marked(at: usize) {
+    let mut area = [0; 12];
+    cases::bytes(&mut area, at, &[1]);
+    let name = Line::new()
+        .text(b"key writer: 12 zeros, 1 at ")
+        .number(at as u64);
+    put(name.text(b": "), 64, &area, 1);
+}
+
+fn given(name: &[u8], room: usize, sid: &[u8], n: usize) {
+    put(Line::new().text(name), room, sid, n);
+}
+
+fn put(line: Line, room: usize, sid: &[u8], n: usize) {
+    let certificate = [99; 65536];
+    let mut out = [FILL; 65536];
+    print(written(line, &mut out, room, sid, cases::first(&certificate, n)));
 }
 
 fn written(line: Line, out: &mut [u8], room: usize, sid: &[u8], certificate: &[u8]) -> Line {
@@ -87,16 +151,16 @@ fn parts_compared(line: Line, s: &[u8], sid: &[u8], certificate: &[u8]) -> Line 
 
 // Whether the output from len on is as it was.
 fn kept(line: Line, out: &[u8], len: usize) -> Line {
-    let before = [FILL; 64];
+    let before = [FILL; 65536];
     cases::kept(line.text(b" "), &before, out, len)
 }
 
-// What was read from a record of 47 bytes is written: before Reserved2, behind it, and as a whole.
-fn rewritten(name: &[u8], reserved2: u32) {
+// What was read from a record of 47 bytes, of them 12 of a SID, is written: before Reserved2, behind it, and as a whole.
+fn rewritten(name: &[u8], reserved2: u32, sid: &[u8]) {
     let mut s = [0; 47];
     let mut out = [FILL; 47];
     cases::numbers(&mut s, 0, &[47, 43, 28, 2, 3, 40, reserved2, 0]);
-    put_sid(&mut s, 32, 1, 1);
+    cases::bytes(&mut s, 32, sid);
     cases::bytes(&mut s, 44, b"abc");
     print(rewrite(Line::new().text(name), &mut out, &s));
 }

@@ -39,9 +39,12 @@ fn wrong_mark(units: usize) -> Vec<u8> {
     make::with(envelope(units), 4, 0)
 }
 
+/// The most zeros that an EfsKey has for a SID, beside a certificate of one byte.
+const MOST_ZEROS: usize = 65_502;
+
 fn operations<F>(meter: Meter<F>) -> Vec<Row<F>> {
     let entry = || make::entry(28, 256);
-    let efskey = || make::efskey(512);
+    let efskey = || make::efskey(&make::SID, 512);
     vec![
         row("entry read", "304 bytes", entry_read(meter, 0, &entry())),
         row(
@@ -81,14 +84,34 @@ fn operations<F>(meter: Meter<F>) -> Vec<Row<F>> {
             efskey_read(meter, 4, &make::with(efskey(), 12, 0)),
         ),
         row(
+            "EfsKey read",
+            "572 bytes, 28 zeros",
+            efskey_read(meter, 0, &make::efskey(&[0; 28], 512)),
+        ),
+        row(
+            "EfsKey read",
+            "65,535 bytes, 65,502 zeros",
+            efskey_read(meter, 0, &make::efskey(&[0; MOST_ZEROS], 1)),
+        ),
+        row(
             "EfsKey write",
             "572 bytes, output kept",
-            efskey_write(meter, 512, Output::Kept),
+            efskey_write(meter, &make::SID, 512, Output::Kept),
         ),
         row(
             "EfsKey write",
             "572 bytes, output cleared",
-            efskey_write(meter, 512, Output::Cleared),
+            efskey_write(meter, &make::SID, 512, Output::Cleared),
+        ),
+        row(
+            "EfsKey write",
+            "572 bytes, 28 zeros, output kept",
+            efskey_write(meter, &[0; 28], 512, Output::Kept),
+        ),
+        row(
+            "EfsKey write",
+            "65,535 bytes, 65,502 zeros, output kept",
+            efskey_write(meter, &[0; MOST_ZEROS], 1, Output::Kept),
         ),
         row(
             "segment read",
@@ -184,6 +207,9 @@ fn series<F>(
 /// Numbers of entries, up to the longest list that is accepted.
 const COUNTS: [usize; 5] = [1, 10, 100, 1_000, 2_621];
 
+/// Numbers of zeros in a SID's place.
+const ZEROS: [usize; 4] = [1, 28, 1_024, MOST_ZEROS];
+
 /// Numbers of data blocks, up to the longest segment that is accepted.
 const BLOCKS: [usize; 4] = [0, 16, 1_024, 16_376];
 
@@ -203,6 +229,10 @@ fn growth<F>(meter: Meter<F>) -> Vec<Series<F>> {
         }),
         series("list walk", "entries", 0, &COUNTS, |count| {
             (count, list_walk(meter, &make::list(count)))
+        }),
+        series("EfsKey read, no hint", "zeros", 1, &ZEROS, |zeros| {
+            let key = make::efskey(&vec![0; zeros], 1);
+            (zeros, efskey_read(meter, 0, &key))
         }),
         series("segment read", "blocks", 1, &BLOCKS, |blocks| {
             (blocks, segment_read(meter, 0, &make::segment(blocks)))

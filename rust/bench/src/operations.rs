@@ -219,13 +219,13 @@ pub fn entry_write<F>(meter: Meter<F>, item_len: usize, fek_len: usize, output: 
     )
 }
 
-pub fn efskey_write<F>(meter: Meter<F>, certificate_len: usize, output: Output) -> F {
+pub fn efskey_write<F>(meter: Meter<F>, sid: &[u8], certificate_len: usize, output: Output) -> F {
     let faces = [raw::gw_efskey_write, face::efskey_write];
-    let (sid, certificate) = (&make::SID[..], &make::certificate(certificate_len)[..]);
+    let certificate = &make::certificate(certificate_len)[..];
     let reference = black_box(by::efskey::write as fn(&mut [u8], &[u8], &[u8]) -> _);
     write(
         meter,
-        &make::efskey(certificate_len),
+        &make::efskey(sid, certificate_len),
         output,
         faces,
         // SAFETY: each pointer and its length are a slice's, and the output is borrowed alone.

@@ -63,10 +63,10 @@ pub fn certificate(len: usize) -> Vec<u8> {
     vec![5; len]
 }
 
-/// An EfsKey with a SID and a certificate of this length.
-pub fn efskey(certificate_len: usize) -> Vec<u8> {
+/// An EfsKey with this SID, or zeros for no hint, and a certificate of this length.
+pub fn efskey(sid: &[u8], certificate_len: usize) -> Vec<u8> {
     let mut key = vec![0; 32];
-    key.extend(SID);
+    key.extend(sid);
     key.extend(certificate(certificate_len));
     let len = key.len() as u32;
     let numbers = [
@@ -75,7 +75,7 @@ pub fn efskey(certificate_len: usize) -> Vec<u8> {
         (8, 28),
         (12, 2),
         (16, certificate_len as u32),
-        (20, 28 + SID.len() as u32),
+        (20, 28 + sid.len() as u32),
     ];
     for (at, number) in numbers {
         put(&mut key, at, number);

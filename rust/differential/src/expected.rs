@@ -10,6 +10,7 @@ use gishwarem::raw::{
 use gishwarem::SegmentHead;
 use reference::choice::{self, Key, Which};
 use reference::decision::{self, Rights, Row};
+use reference::efskey::Sid;
 use reference::entry::Algorithm;
 use reference::list::Step;
 use reference::reach::{self, Form, Reach};
@@ -176,20 +177,28 @@ pub fn list_step(bytes: &[u8], place: usize, number: u32) -> StepAnswer {
     }
 }
 
+/// The code of what stands in a SID's place, and where it stands.
+fn sid(sid: Sid) -> (u32, Part) {
+    match sid {
+        Sid::Absent => (codes::SID_NONE, Part::default()),
+        Sid::Given(area) => (codes::SID_GIVEN, part(area)),
+        Sid::NoHint(area) => (codes::SID_NO_HINT, part(area)),
+    }
+}
+
 /// Reads an EfsKey.
 #[inline]
 pub fn efskey_read(bytes: &[u8]) -> EfsKeyAnswer {
     match efskey::read(bytes) {
-        Ok(key) => EfsKeyAnswer {
-            refusal: 0,
-            kind: if key.sid.is_some() {
-                codes::SID_GIVEN
-            } else {
-                codes::SID_NONE
-            },
-            sid: key.sid.map_or(Part::default(), part),
-            certificate: part(key.certificate),
-        },
+        Ok(key) => {
+            let (kind, sid) = sid(key.sid);
+            EfsKeyAnswer {
+                refusal: 0,
+                kind,
+                sid,
+                certificate: part(key.certificate),
+            }
+        }
         Err(number) => refused!(EfsKeyAnswer, number),
     }
 }

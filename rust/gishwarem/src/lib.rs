@@ -65,7 +65,7 @@ mod time;
 mod walk;
 
 pub use decision::{decide, Answer, Rights, Row};
-pub use efskey::EfsKey;
+pub use efskey::{EfsKey, SidHint};
 pub use entry::{Algorithm, Entry};
 pub use envelope::{Bodies, Envelope, Head};
 pub use form::Form;

@@ -12,9 +12,9 @@
 pub mod codes;
 
 /// The version of the header that these declarations follow.
-pub const VERSION: u32 = 1;
+pub const VERSION: u32 = 2;
 
-/// A part of the caller's bytes. Both are 0 beside a refusal, at the end of a list, and for an absent SID; an absent body of an
+/// A part of the caller's bytes. Both are 0 beside a refusal, at the end of a list, and with `SID_NONE`; an absent body of an
 /// envelope, and the sizes of no block, have length 0 at their place in the layout.
 #[repr(C)]
 #[derive(Debug, Clone, Copy, PartialEq, Eq, Default)]
@@ -119,9 +119,9 @@ pub struct StepAnswer {
 pub struct EfsKeyAnswer {
     /// Refusal number.
     pub refusal: u32,
-    /// 1 where there is a SID.
+    /// 0 no SID, 1 a SID, 2 zeros in its place: no hint given.
     pub kind: u32,
-    /// The SID.
+    /// The SID, or the zeros in its place.
     pub sid: Part,
     /// The certificate.
     pub certificate: Part,
@@ -352,7 +352,7 @@ extern "C" {
     pub fn gw_list_step(list: *const u8, len: usize, at: usize, index: u32) -> StepAnswer;
     /// Reads an EfsKey.
     pub fn gw_efskey_read(key: *const u8, len: usize) -> EfsKeyAnswer;
-    /// Writes an EfsKey at the start of `out`; an empty SID means none. A refusal changes no byte.
+    /// Writes an EfsKey at the start of `out`; an empty SID means none, zeros no hint. A refusal changes no byte.
     pub fn gw_efskey_write(
         out: *mut u8,
         room: usize,

@@ -87,18 +87,20 @@ fn the_last_step_comes_again() {
 #[test]
 fn an_efskey_that_is_read_is_written_again() {
     let sid = [1, 1, 0, 0, 0, 0, 0, 5, 18, 0, 0, 0];
-    let mut record = [0; 45];
-    EfsKey::write(&mut record, Some(&sid), &[0x30]).expect("an EfsKey");
-    each_edit(&record, |bytes| {
-        if let Ok(key) = EfsKey::read(bytes) {
-            let mut again = bytes.to_vec();
-            let length = EfsKey::write(&mut again, key.sid, key.certificate);
-            assert_eq!(length, Ok(bytes.len()));
-            assert_eq!(again[..24], bytes[..24]);
-            assert_eq!(again[24..32], [0; 8]);
-            assert_eq!(again[32..], bytes[32..]);
-        }
-    });
+    for sid in [&[][..], &sid, &[0; 8]] {
+        let mut record = vec![0; 32 + sid.len() + 1];
+        EfsKey::write(&mut record, sid, &[0x30]).expect("an EfsKey");
+        each_edit(&record, |bytes| {
+            if let Ok(key) = EfsKey::read(bytes) {
+                let mut again = bytes.to_vec();
+                let length = EfsKey::write(&mut again, key.sid.bytes(), key.certificate);
+                assert_eq!(length, Ok(bytes.len()));
+                assert_eq!(again[..24], bytes[..24]);
+                assert_eq!(again[24..32], [0; 8]);
+                assert_eq!(again[32..], bytes[32..]);
+            }
+        });
+    }
 }
 
 /// Three data blocks, the last of them larger than the data unit of 512 bytes, and 5 bytes behind their sizes.

@@ -31,17 +31,32 @@ fn beside_a_refusal_there_are_zeros() {
     assert_eq!(envelope_read(&ENVELOPE[..79]), expected);
 }
 
+/// An EfsKey with this SID and a certificate of one byte, written and read.
+fn efskey_read_back(sid: &[u8]) -> raw::EfsKeyAnswer {
+    let mut key = vec![0; 32 + sid.len() + 1];
+    let (out, room) = (key.as_mut_ptr(), key.len());
+    // SAFETY: each pointer and its length are a slice's, and the output is borrowed alone.
+    let written =
+        unsafe { raw::gw_efskey_write(out, room, sid.as_ptr(), sid.len(), [7].as_ptr(), 1) };
+    assert_eq!((written.refusal, written.len), (0, room));
+    // SAFETY: pointer and length are a slice's.
+    unsafe { raw::gw_efskey_read(key.as_ptr(), key.len()) }
+}
+
 #[test]
 fn an_absent_sid_is_0_and_0() {
-    let mut key = [0; 33];
-    // SAFETY: each pointer and its length are an array's, and an empty SID goes with any pointer.
-    let written =
-        unsafe { raw::gw_efskey_write(key.as_mut_ptr(), 33, [].as_ptr(), 0, [7].as_ptr(), 1) };
-    assert_eq!((written.refusal, written.len), (0, 33));
-    // SAFETY: pointer and length are an array's.
-    let shown = unsafe { raw::gw_efskey_read(key.as_ptr(), key.len()) };
-    assert_eq!((shown.refusal, shown.kind, shown.sid), (0, 0, NONE));
+    let shown = efskey_read_back(&[]);
+    assert_eq!((shown.refusal, shown.kind), (0, raw::codes::SID_NONE));
+    assert_eq!(shown.sid, NONE);
     assert_eq!(shown.certificate, Part { at: 32, len: 1 });
+}
+
+#[test]
+fn zeros_in_a_sids_place_are_a_part() {
+    let shown = efskey_read_back(&[0; 5]);
+    assert_eq!((shown.refusal, shown.kind), (0, raw::codes::SID_NO_HINT));
+    assert_eq!(shown.sid, Part { at: 32, len: 5 });
+    assert_eq!(shown.certificate, Part { at: 37, len: 1 });
 }
 
 #[test]

@@ -1,4 +1,4 @@
-//! The EfsKey (MS-GPEF 2.2.1.2.2; document 01, "EfsKey").
+//! The EfsKey (MS-GPEF 2.2.1.2.2; document 01, "EfsKey"; document 02, No. 2).
 
 use crate::{put_u32, record_length, u32_at, Part, MAX_LENGTH};
 
@@ -14,11 +14,22 @@ const FIRST_OFFSET: u32 = (HEAD - ORIGIN) as u32;
 /// The number in Reserved1: 02 00 00 00.
 const RESERVED1: u32 = 2;
 
+/// What stands in the SID's place.
+#[derive(Debug, Clone, Copy, PartialEq, Eq)]
+pub enum Sid {
+    /// Nothing: the SID offset is 0.
+    Absent,
+    /// Zeros, at least one: no hint given.
+    NoHint(Part),
+    /// A SID.
+    Given(Part),
+}
+
 /// What an accepted EfsKey shows. Places count from byte 0 of the record.
 #[derive(Debug, Clone, Copy, PartialEq, Eq)]
 pub struct EfsKey {
-    /// The SID, if there is one.
-    pub sid: Option<Part>,
+    /// The SID, or what stands for it.
+    pub sid: Sid,
     /// The certificate.
     pub certificate: Part,
 }
@@ -55,18 +66,19 @@ pub fn read(bytes: &[u8]) -> Result<EfsKey, u32> {
         len: certificate_length as usize,
     };
 
-    // The SID fills what lies between the head and the certificate.
+    // The SID, or zeros, fill what lies between the head and the certificate.
     let sid = match u32_at(bytes, 8) {
-        0 if certificate_offset == FIRST_OFFSET => None,
+        0 if certificate_offset == FIRST_OFFSET => Sid::Absent,
         FIRST_OFFSET => {
-            let sid = Part {
+            let area = Part {
                 at: HEAD,
                 len: certificate.at - HEAD,
             };
-            if !is_sid(sid.of(bytes)) {
-                return Err(12);
+            match area.of(bytes) {
+                sid if is_sid(sid) => Sid::Given(area),
+                zeros if is_no_hint(zeros) => Sid::NoHint(area),
+                _ => return Err(12),
             }
-            Some(sid)
         }
         _ => return Err(6),
     };
@@ -86,14 +98,21 @@ fn is_sid(bytes: &[u8]) -> bool {
     revision == 1 && count <= 15 && bytes.len() == 8 + 4 * usize::from(count)
 }
 
+/// Whether the bytes give no hint (document 02, No. 2): at least one, and all
+/// of them zeros.
+fn is_no_hint(bytes: &[u8]) -> bool {
+    // The fold does not end early, so that many bytes are looked at in one step.
+    bytes.first() == Some(&0) && bytes.iter().fold(0, |any, byte| any | byte) == 0
+}
+
 /// Writes an EfsKey into the first bytes of `out` and tells its length. An
-/// empty SID means none.
+/// empty SID means none, and zeros mean no hint.
 pub fn write(out: &mut [u8], sid: &[u8], certificate: &[u8]) -> Result<usize, u32> {
     let length = record_length(HEAD, &[sid, certificate])?;
     if certificate.is_empty() {
         return Err(7);
     }
-    if !sid.is_empty() && !is_sid(sid) {
+    if !sid.is_empty() && !is_sid(sid) && !is_no_hint(sid) {
         return Err(12);
     }
     let record = out.get_mut(..length).ok_or(13u32)?;
@@ -158,7 +177,7 @@ mod tests {
         assert_eq!(
             read(&LEAST),
             Ok(EfsKey {
-                sid: None,
+                sid: Sid::Absent,
                 certificate: Part { at: 32, len: 1 },
             })
         );
@@ -237,15 +256,17 @@ mod tests {
         for wrong in [1, 27, 29, 32, u32::MAX] {
             assert_eq!(number_with(8, wrong), 6);
         }
-        // An empty area is no SID.
+        // An empty area is no SID, and has no zeros.
         assert_eq!(number_with(8, 28), 12);
         // No SID, but bytes between head and certificate.
-        let mut bytes = with_area(&sid(0, 8));
-        assert_eq!(number(&bytes), 0);
-        put_u32(&mut bytes, 8, 0);
-        assert_eq!(number(&bytes), 6);
-        put_u32(&mut bytes, 8, 32);
-        assert_eq!(number(&bytes), 6);
+        for area in [sid(0, 8), vec![0; 8]] {
+            let mut bytes = with_area(&area);
+            assert_eq!(number(&bytes), 0);
+            put_u32(&mut bytes, 8, 0);
+            assert_eq!(number(&bytes), 6);
+            put_u32(&mut bytes, 8, 32);
+            assert_eq!(number(&bytes), 6);
+        }
     }
 
     #[test]
@@ -253,7 +274,7 @@ mod tests {
         assert_eq!(
             read(&with_area(&sid(5, 28))),
             Ok(EfsKey {
-                sid: Some(Part { at: 32, len: 28 }),
+                sid: Sid::Given(Part { at: 32, len: 28 }),
                 certificate: Part { at: 60, len: 1 },
             })
         );
@@ -272,23 +293,92 @@ mod tests {
         }
         // An area of one byte; the certificate's byte isn't the count.
         assert_eq!(number(&with_area(&[1])), 12);
-        assert_eq!(number(&with_area(&[0; 8])), 12);
+    }
+
+    /// The most zeros that fit beside the head and a certificate of one byte.
+    const MOST_ZEROS: usize = 65_535 - 32 - 1;
+
+    #[test]
+    fn zeros_give_no_hint() {
+        // Also of lengths that no SID has: under 8, over 68, or no multiple of 4.
+        for len in [1, 2, 7, 8, 9, 12, 68, 69, 72, MOST_ZEROS] {
+            assert_eq!(
+                read(&with_area(&vec![0; len])),
+                Ok(EfsKey {
+                    sid: Sid::NoHint(Part { at: 32, len }),
+                    certificate: Part {
+                        at: 32 + len,
+                        len: 1
+                    },
+                })
+            );
+        }
+        assert_eq!(number(&with_area(&[0; MOST_ZEROS + 1])), 1);
+    }
+
+    #[test]
+    fn zeros_but_for_one_byte() {
+        // Of 12 bytes, a SID needs its revision and its count.
+        for at in 0..12 {
+            for byte in [1, 2, 0x80, 0xFF] {
+                let mut area = [0; 12];
+                area[at] = byte;
+                assert_eq!(number(&with_area(&area)), 12);
+            }
+        }
+        // Of 8 bytes, the revision alone: a count of 0.
+        assert_eq!(number(&with_area(&[0, 0, 0, 0, 0, 0, 0, 1])), 12);
+        assert_eq!(number(&with_area(&[0, 1, 0, 0, 0, 0, 0, 0])), 12);
+        assert_eq!(
+            read(&with_area(&[1, 0, 0, 0, 0, 0, 0, 0])).unwrap().sid,
+            Sid::Given(Part { at: 32, len: 8 })
+        );
+        for at in [0, 1, MOST_ZEROS / 2, MOST_ZEROS - 1] {
+            let mut area = vec![0; MOST_ZEROS];
+            area[at] = 1;
+            assert_eq!(number(&with_area(&area)), 12);
+        }
+    }
+
+    #[test]
+    fn sids_of_zero_authorities() {
+        for count in 0..=15 {
+            let len = 8 + 4 * usize::from(count);
+            let mut area = vec![0; len];
+            area[..2].copy_from_slice(&[1, count]);
+            assert_eq!(
+                read(&with_area(&area)).unwrap().sid,
+                Sid::Given(Part { at: 32, len })
+            );
+        }
     }
 
     #[test]
     fn reserved2_is_ignored() {
-        let mut bytes = LEAST;
-        bytes[24..32].fill(0xFF);
-        assert_eq!(read(&bytes), read(&LEAST));
+        for sound in [LEAST.to_vec(), with_area(&sid(1, 12)), with_area(&[0; 3])] {
+            let mut bytes = sound.clone();
+            bytes[24..32].fill(0xFF);
+            assert_eq!(read(&bytes), read(&sound));
+        }
     }
 
     #[test]
     fn written_bytes() {
-        let area = sid(1, 12);
-        let mut out = [0xEE; 46];
-        assert_eq!(write(&mut out, &area, &[0xCE]), Ok(45));
-        assert_eq!(out[..45], with_area(&area));
-        assert_eq!(out[45], 0xEE);
+        for area in [
+            sid(1, 12),
+            vec![1, 0, 0, 0, 0, 0, 0, 0],
+            vec![0; 1],
+            vec![0; 7],
+            vec![0; 8],
+            vec![0; 68],
+            vec![0; MOST_ZEROS],
+        ] {
+            let length = 32 + area.len() + 1;
+            let mut out = vec![0xEE; length + 1];
+            assert_eq!(write(&mut out, &area, &[0xCE]), Ok(length));
+            assert_eq!(out[..length], with_area(&area));
+            assert_eq!(out[length], 0xEE);
+        }
     }
 
     #[test]
@@ -300,8 +390,16 @@ mod tests {
         assert_eq!(write(&mut out, &long[..65_503], &[]), Err(7));
         assert_eq!(write(&mut out, &long[..65_502], &[1]), Err(12));
         assert_eq!(write(&mut out, &[0; 7], &[]), Err(7));
-        assert_eq!(write(&mut out, &[0; 7], &[1]), Err(12));
         assert_eq!(write(&mut out, &[1], &[1]), Err(12));
+        for at in 0..12 {
+            let mut area = [0; 12];
+            area[at] = 1;
+            assert_eq!(write(&mut out, &area, &[1]), Err(12));
+        }
+        assert_eq!(write(&mut out, &[0; MOST_ZEROS + 1], &[]), Err(7));
+        assert_eq!(write(&mut out, &[0; MOST_ZEROS + 1], &[1]), Err(1));
+        assert_eq!(write(&mut out, &[0; MOST_ZEROS], &[1]), Err(13));
+        assert_eq!(write(&mut out, &[0], &[1]), Err(13));
         assert_eq!(write(&mut out, &[], &[1]), Err(13));
         assert_eq!(write(&mut out, &[], &long[..65_503]), Err(13));
         assert_eq!(out, [0xEE; 32]);

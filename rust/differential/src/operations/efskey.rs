@@ -1,7 +1,5 @@
 //! Reading and writing an EfsKey.
 
-use gishwarem::raw::codes;
-
 use super::Asked;
 use crate::hex::Hex;
 use crate::lent::Output;
@@ -16,7 +14,7 @@ pub const READ: Subject = Subject {
     name: "EfsKey read",
     run: read,
     refusals: &[1, 2, 3, 4, 6, 7, 12],
-    events: &["SID", "no SID"],
+    events: &efskey::CASES,
 };
 
 /// The writer.
@@ -24,7 +22,7 @@ pub const WRITE: Subject = Subject {
     name: "EfsKey write",
     run: write,
     refusals: &[1, 7, 12, 13],
-    events: &[],
+    events: &efskey::CASES,
 };
 
 fn read(rng: &mut Rng, tally: &mut Tally) {
@@ -32,10 +30,8 @@ fn read(rng: &mut Rng, tally: &mut Tally) {
     let bytes = efskey::record(rng, kind);
     let answer = ask::efskey_read(rng, &bytes);
     Asked::new(kind, &Hex(&bytes)).compare(tally, &answer, &expected::efskey_read(&bytes));
-    if answer.kind == codes::SID_GIVEN {
-        tally.event("SID");
-    } else if answer.refusal == 0 {
-        tally.event("no SID");
+    if answer.refusal == 0 {
+        tally.event(efskey::CASES[answer.kind as usize]);
     }
 }
 
@@ -49,4 +45,7 @@ fn write(rng: &mut Rng, tally: &mut Tally) {
     Asked::new(kind, &input).compare_written(tally, &out, &answer, |out| {
         expected::efskey_write(out, &sid, &certificate)
     });
+    if answer.refusal == 0 {
+        tally.event(efskey::CASES[efskey::kind_of(&sid) as usize]);
+    }
 }

@@ -22,12 +22,12 @@ pub const ENTRY: Subject = Subject {
     events: &[],
 };
 
-/// An EfsKey that is written reads back.
+/// An EfsKey that is written reads back, with the kind that the SID's bytes tell.
 pub const EFSKEY_WRITTEN: Subject = Subject {
     name: "EfsKey written, then read",
     run: efskey_written,
     refusals: &[1, 7, 12, 13],
-    events: &[],
+    events: &efskey::CASES,
 };
 
 /// An EfsKey that is read writes the same bytes but for Reserved2.
@@ -35,7 +35,7 @@ pub const EFSKEY_READ: Subject = Subject {
     name: "EfsKey read, then written",
     run: efskey_read,
     refusals: &[1, 2, 3, 4, 6, 7, 12],
-    events: &[],
+    events: &efskey::CASES,
 };
 
 /// A segment that is written reads back.
@@ -115,9 +115,10 @@ fn efskey_written(rng: &mut Rng, tally: &mut Tally) {
     let read = ask::efskey_read(rng, record);
     let told = (read, Hex(record));
     assert_eq!(read.refusal, 0, "{told:?}");
-    assert_eq!(read.kind == codes::SID_NONE, sid.is_empty(), "{told:?}");
+    assert_eq!(read.kind, efskey::kind_of(&sid), "{told:?}");
     assert_eq!(part_of(record, read.sid), sid, "{told:?}");
     assert_eq!(part_of(record, read.certificate), certificate, "{told:?}");
+    tally.event(efskey::CASES[read.kind as usize]);
 }
 
 fn efskey_read(rng: &mut Rng, tally: &mut Tally) {
@@ -135,8 +136,10 @@ fn efskey_read(rng: &mut Rng, tally: &mut Tally) {
     let mut same = bytes.clone();
     same[efskey::RESERVED2].fill(0);
     let told = (read, written, Hex(&bytes));
+    assert_eq!(read.kind, efskey::kind_of(sid), "{told:?}");
     assert_eq!((written.refusal, written.len), (0, bytes.len()), "{told:?}");
     assert!(out.holds(&same), "{told:?}");
+    tally.event(efskey::CASES[read.kind as usize]);
 }
 
 fn segment_written(rng: &mut Rng, tally: &mut Tally) {

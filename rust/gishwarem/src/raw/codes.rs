@@ -16,6 +16,8 @@ pub const STEP_END: u32 = 2;
 pub const SID_NONE: u32 = 0;
 /// An EfsKey with a SID.
 pub const SID_GIVEN: u32 = 1;
+/// An EfsKey with zeros in the SID's place: no hint given.
+pub const SID_NO_HINT: u32 = 2;
 
 /// No key.
 pub const FORM_KEYLESS: u32 = 0;
