@@ -49,12 +49,9 @@ field-shown s (present some sound) = rw (some, sid-hint (sidArea s) sound)
 
 field-sid : (s : List ℕ) → SidField s → (sidMisplaced (sidOffset s) ≡ false) × (gapWithoutSid (sidOffset s) (certificateOffset s) ≡ false) × (sidMalformed (hintIn s) (sidArea s) ≡ false)
 unfolding sidMalformed
-field-sid s field = rw (field-shown s field) (told field)
-  where
-    told : (field : SidField s) → (sidMisplaced (sidOffset s) ≡ false) × (gapWithoutSid (sidOffset s) (certificateOffset s) ≡ false) × (sidMalformed (fieldHint s field) (sidArea s) ≡ false)
-    told (absent none straight) = rw (none, straight) (refl, refl, refl)
-    told (no-hint some one zeros) = rw some (refl, refl, refl)
-    told (present some sound) = rw (some, well-formed-sid _ sound) (refl, refl, refl)
+field-sid s (absent none straight) = rw (field-shown s (absent none straight), none, straight) (refl, refl, refl)
+field-sid s (no-hint some one zeros) = rw (field-shown s (no-hint some one zeros), some) (refl, refl, refl)
+field-sid s (present some sound) = rw (field-shown s (present some sound), some, well-formed-sid _ sound) (refl, refl, refl)
 
 -- Accepted, so well formed.
 pub checks-well-formed : (s : List ℕ) → firstOf (efsKeyChecks s) ≡ outcome.Accepted → WellFormed s

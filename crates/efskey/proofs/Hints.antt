@@ -1,10 +1,10 @@
 -- Laws of the SID area: zero bytes, one at least, give no hint; a SID does; and where what the area holds stands.
 use Rattle.lemmas.proofs.Basics.{ℕ, _≤_, arith, Bool, true, false, cond, List, _≡_, refl, leb, eqb, length, le-leb, leb-true, eq-eqb, eqb-true}
-use Rattle.lemmas.proofs.Cases.{by-cases, both-true}
+use Rattle.lemmas.proofs.Cases.{by-cases, cond-cases, both-true}
 use Rattle.lemmas.proofs.Counting.{every-all, all-every}
 use Rattle.sid.specs.WellFormed as sid
-use Rattle.efskey.specs.declared.SidHint.{SidHint}
 use Rattle.efskey.specs.declared.SidHint.the-variants.{None, Sid, NoHint}
+use Rattle.efskey.specs.declared.SidArea.{SidArea}
 use Rattle.efskey.specs.declared.SidArea.the-variants.{Holds, Malformed}
 use Rattle.efskey.specs.Layout.{allZeros, isNoHint, areaSpan, hintOf, sidMalformed, areaOf}
 use Rattle.efskey.specs.Reading.{hintSpan}
@@ -33,20 +33,11 @@ hint-span offset area = told (eqb offset 0) (isNoHint area)
     told false true = refl
     told false false = refl
 
--- What the area holds passes the check, and what is malformed does not.
-module _ (offset : ℕ) (area : List ℕ) where
-  pub holds : {hint : SidHint} → areaOf offset area ≡ Holds hint → (sidMalformed (hintOf offset area) area ≡ false) × (hint ≡ hintOf offset area)
-  unfolding areaOf
-  holds {hint} = told (sidMalformed (hintOf offset area) area)
-    where
-      told : (t : Bool) → cond t Malformed (Holds (hintOf offset area)) ≡ Holds hint → (t ≡ false) × (hint ≡ hintOf offset area)
-      told true e = let z : _≡_ {A = ℕ} 0 1 = cc in absurd (omega arith)
-      told false e = (refl, cc)
+-- what an answer says of the area: what it holds passes the check and is the hint; what is malformed does not pass
+abbrev pub Says : ℕ → List ℕ → SidArea → Type 0
+Says offset area (Holds hint) = (sidMalformed (hintOf offset area) area ≡ false) × (hint ≡ hintOf offset area)
+Says offset area Malformed = sidMalformed (hintOf offset area) area ≡ true
 
-  pub malformed : areaOf offset area ≡ Malformed → sidMalformed (hintOf offset area) area ≡ true
-  unfolding areaOf
-  malformed = told (sidMalformed (hintOf offset area) area)
-    where
-      told : (t : Bool) → cond t Malformed (Holds (hintOf offset area)) ≡ Malformed → t ≡ true
-      told true e = refl
-      told false e = let z : _≡_ {A = ℕ} 0 1 = cc in absurd (omega arith)
+pub area-says : (offset : ℕ) (area : List ℕ) → Says offset area (areaOf offset area)
+unfolding areaOf
+area-says offset area = cond-cases (Says offset area) (sidMalformed (hintOf offset area) area) (λ q. q) (λ q. (q, refl))
