@@ -1,12 +1,13 @@
 // Document 01, "Time and identifiers", as C has its answers.
 ghost use mathlib.Core.Path.{_≡_};
+ghost use Rattle.gkid.specs.declared.Older.the-variants.{None, Refused};
 ghost use Rattle.face.specs.Shapes.{noIdentifier};
 ghost use Rattle.face_times.specs.Times.{presentAnswer, startAnswer, olderAnswer};
 use face::Identifier;
 use face::to_identifier;
 use gkid::Gkid;
-use gkid::Older;
 use gkid::Start;
+use refusal::Refusal;
 
 // An identifier: found is 1 where there is one.
 #[repr(C)]
@@ -24,7 +25,7 @@ pub struct StartAnswer {
     pub time: u64,
 }
 
-// A reading always has its identifier.
+// A reading always has its identifier; an identifier's next older one is shown the same way.
 pub fn present_answer(present: Gkid) -> IdentifierAnswer
     ensures { λ r. ⌜ r ≡ presentAnswer present ⌝ }
 {
@@ -52,14 +53,18 @@ pub fn start_answer(start: Start) -> StartAnswer
     }
 }
 
-pub fn older_answer(older: Older) -> IdentifierAnswer
-    ensures { λ r. ⌜ r ≡ olderAnswer older ⌝ }
+// (L0, 0, 0) has none, which is no refusal.
+pub fn none_older() -> IdentifierAnswer
+    ensures { λ r. ⌜ r ≡ olderAnswer None ⌝ }
 {
-    match older {
-        Older::Is(at) => present_answer(at),
-        Older::None => nothing(0),
-        Older::Refused(refusal) => nothing(refusal.number()),
-    }
+    nothing(0)
+}
+
+// Refused: the number, and zeros.
+pub fn older_refused(refusal: Refusal) -> IdentifierAnswer
+    ensures { λ r. ⌜ r ≡ olderAnswer (Refused refusal) ⌝ }
+{
+    nothing(refusal.number())
 }
 
 // No identifier.

@@ -9,11 +9,13 @@ use face::Identifier;
 use face::to_gkid;
 use face_times::IdentifierAnswer;
 use face_times::StartAnswer;
-use face_times::older_answer;
+use face_times::none_older;
+use face_times::older_refused;
 use face_times::present_answer;
 use face_times::start_answer;
 use gkid::FileTime;
 use gkid::Gkid;
+use gkid::Older;
 
 #[no_mangle]
 pub extern "C" fn gw_time_identifier(time: u64) -> IdentifierAnswer
@@ -33,5 +35,15 @@ pub extern "C" fn gw_identifier_start(at: Identifier) -> StartAnswer
 pub extern "C" fn gw_identifier_older(at: Identifier) -> IdentifierAnswer
     ensures { λ r. ⌜ r ≡ olderAnswer (olderOf (gkidFrom at)) ⌝ }
 {
-    older_answer(to_gkid(at).older())
+    match to_gkid(at).older() {
+        Older::Is(older) => {
+            return present_answer(older);
+        }
+        Older::None => {
+            return none_older();
+        }
+        Older::Refused(refusal) => {
+            return older_refused(refusal);
+        }
+    }
 }

@@ -64,10 +64,6 @@ later-antisymmetric i j p q =
 then-test : (a b x y : ℕ) (next : Bool) → (a < b → x ≤ y) → (b < a → y < x) → (a ≡ b → next ≡ ltb y x) → laterThen a b next ≡ ltb y x
 then-test a b x y next less more same = then-cases a b next (λ t. t ≡ ltb y x) (λ l. sym (le-ltb y x (less l))) same (λ l. sym (lt-ltb y x (more l)))
 
--- the last index decides by itself
-pub then-last : (a b : ℕ) → laterThen a b false ≡ ltb b a
-then-last a b = then-test a b a b false (omega arith) (omega arith) (λ e. sym (le-ltb b a (omega arith)))
-
 -- No 5 exactly where L1 and L2 are at most 31.
 pub in-group : (i : Gkid) → indexAbove31 i ≡ false → InGroup i
 unfolding indexAbove31

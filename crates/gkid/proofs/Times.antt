@@ -1,40 +1,16 @@
 -- Laws of the conversion of readings and of start times.
-use Rattle.lemmas.proofs.Basics.{_+_, _/_, _^_, _≤_, _<_, arith, false, cond, _≡_, refl, sym, subst, _∙_, ltb, leb, le-ltb, ltb-true, ltb-false, le-leb, lt-leb}
+use Rattle.lemmas.proofs.Basics.{ℕ, _+_, _*_, _/_, _%_, _^_, _≤_, _<_, arith, false, cond, _≡_, refl, sym, subst, _∙_, ltb, leb, le-ltb, ltb-true, ltb-false, le-leb, lt-leb}
 use Rattle.refusal.specs.declared.Refusal.{Refusal}
 use Rattle.refusal.specs.declared.Refusal.the-variants.{IndexAbove31, StartPastTime}
 use Rattle.gkid.specs.declared.FileTime.{FileTime}
 use Rattle.gkid.specs.declared.Gkid.{Gkid}
 use Rattle.gkid.specs.declared.Start.{Start}
 use Rattle.gkid.specs.declared.Start.the-variants.{At, Refused}
-use Rattle.gkid.specs.Identifier.{indexAbove31, InGroup, later}
+use Rattle.gkid.specs.Identifier.{gkid, indexAbove31, InGroup, later}
 use Rattle.gkid.specs.Conversion.{l2Step, gkidAt, highest}
 use Rattle.gkid.specs.Start.{startTime, startOf, startShown}
-use Rattle.lemmas.proofs.Cases.{by-cases, cond-cases, cond-else}
+use Rattle.lemmas.proofs.Cases.{by-cases, cond-cases}
 use Rattle.gkid.proofs.Order.{in-group, not-above, ordinal, later-ordinal, ordinal-injective, up-to-ordinal}
-
--- Beside a refusal's number stands zero.
-pub refused-zero : (r : Refusal) → startShown (Refused r) ≡ 0
-unfolding startShown
-refused-zero r = refl
-
--- For L1 and L2 up to 31, the start time exceeds 64 bits exactly where the identifier is later than the highest.
-pub past-time : (i : Gkid) → InGroup i → leb (2 ^ 64) (startTime i) ≡ later i highest
-unfolding highest gkidAt
-past-time i g =
-    by-cases (λ t. leb (2 ^ 64) (startTime i) ≡ t) (ltb (ordinal highest) (ordinal i))
-    (λ e. le-leb (2 ^ 64) (startTime i) (omega (arith, ltb-true)))
-    (λ e. lt-leb (2 ^ 64) (startTime i) (omega (arith, ltb-false)))
-    ∙ sym (later-ordinal i highest g (omega arith))
-
--- So start time refuses 5, then 21 exactly where the identifier is later than the highest.
-pub start-by-highest : (i : Gkid) → startOf i ≡ cond (indexAbove31 i) (Refused IndexAbove31) (cond (later i highest) (Refused StartPastTime) (At (record { 0 = startTime i })))
-unfolding startOf
-start-by-highest i = cond-else (indexAbove31 i) _ (λ a. rw (past-time i (in-group i a)))
-
--- Where L1 and L2 are up to 31 and 64 bits hold the start time, that is the answer.
-pub start-is : (i : Gkid) → InGroup i → startTime i < 2 ^ 64 → startOf i ≡ At (record { 0 = startTime i })
-unfolding startOf
-start-is i g h = rw (not-above i g, lt-leb (2 ^ 64) (startTime i) h)
 
 -- A converted reading has L1 and L2 up to 31, and L0 up to 50,039.
 pub reading-in-group : (t : FileTime) → InGroup (gkidAt t)
@@ -50,11 +26,47 @@ pub reading-ordinal : (t : FileTime) → ordinal (gkidAt t) ≡ t .0 / l2Step
 unfolding gkidAt
 reading-ordinal t = omega arith
 
+-- a number of L2 steps, split into the three indices
+abbrev pub split : ℕ → Gkid
+split n = gkid (n / 1024) (n % 1024 / 32) (n % 32)
+
+-- One division down to L2 steps and that number split: the conversion by the three steps, at every reading.
+pub one-division : (t : FileTime) → split (t .0 / l2Step) ≡ gkidAt t
+one-division t = ordinal-injective (split (t .0 / l2Step)) (gkidAt t) (omega arith) (reading-in-group t) (omega (arith, reading-ordinal t))
+
 -- The conversion is monotone.
 pub reading-monotone : (s t : FileTime) → s .0 ≤ t .0 → later (gkidAt s) (gkidAt t) ≡ false
 reading-monotone s t h =
     later-ordinal (gkidAt s) (gkidAt t) (reading-in-group s) (reading-in-group t)
     ∙ le-ltb (ordinal (gkidAt t)) (ordinal (gkidAt s)) (omega (arith, reading-ordinal s, reading-ordinal t))
+
+-- Beside a refusal's number stands zero.
+pub refused-zero : (r : Refusal) → startShown (Refused r) ≡ 0
+unfolding startShown
+refused-zero r = refl
+
+-- The start time exceeds 64 bits exactly where the ordinal is above that of the highest identifier.
+past-ordinal : (i : Gkid) → leb (2 ^ 64) (startTime i) ≡ ltb (ordinal highest) (ordinal i)
+unfolding highest gkidAt
+past-ordinal i =
+    by-cases (λ t. leb (2 ^ 64) (startTime i) ≡ t) (ltb (ordinal highest) (ordinal i))
+    (λ e. le-leb (2 ^ 64) (startTime i) (omega (arith, ltb-true)))
+    (λ e. lt-leb (2 ^ 64) (startTime i) (omega (arith, ltb-false)))
+
+-- So, for L1 and L2 up to 31, exactly where the identifier is later than the highest.
+pub past-time : (i : Gkid) → InGroup i → leb (2 ^ 64) (startTime i) ≡ later i highest
+unfolding highest
+past-time i g = past-ordinal i ∙ sym (later-ordinal i highest g (reading-in-group _))
+
+-- Start time by L2 steps: 5, then 21 exactly where there are more than to the highest identifier, then so many L2 steps.
+pub start-by-steps : (i : Gkid) → startOf i ≡ cond (indexAbove31 i) (Refused IndexAbove31) (cond (ltb (ordinal highest) (ordinal i)) (Refused StartPastTime) (At (record { 0 = ordinal i * l2Step })))
+unfolding startOf
+start-by-steps i = let ticks : startTime i ≡ ordinal i * l2Step = omega arith in rw (past-ordinal i, ticks)
+
+-- Where L1 and L2 are up to 31 and 64 bits hold the start time, that is the answer.
+pub start-is : (i : Gkid) → InGroup i → startTime i < 2 ^ 64 → startOf i ≡ At (record { 0 = startTime i })
+unfolding startOf
+start-is i g h = rw (not-above i g, lt-leb (2 ^ 64) (startTime i) h)
 
 -- The start of a converted reading is not refused; it is at most the reading, and less than one L2 step below it.
 pub record Started (t s : FileTime) : Type 0 where

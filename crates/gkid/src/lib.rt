@@ -1,10 +1,11 @@
 // Document 01, "Time and identifiers": clock readings, group key identifiers, their start times, their order and the next older
 // one. A reading and an index are types of their own, so that neither stands in for the other.
 ghost use mathlib.Core.Path.{_≡_};
-ghost use Prim.Native.Nat.{_<_, _^_};
-ghost use Rattle.gkid.specs.Identifier.{indexAbove31, later};
+ghost use mathlib.Core.Bool.{not};
+ghost use Prim.Native.Nat.{_+_, _*_};
+ghost use Rattle.gkid.specs.Identifier.{indexAbove31};
 ghost use Rattle.gkid.specs.Conversion.{gkidAt};
-ghost use Rattle.gkid.specs.Start.{startOf, startTime};
+ghost use Rattle.gkid.specs.Start.{startOf};
 ghost use Rattle.gkid.specs.Older.{olderOf};
 use refusal::Refusal;
 
@@ -39,12 +40,12 @@ pub enum Older {
 }
 
 impl Gkid {
-    // The steps of the three indices, in ticks.
+    // The three steps: an L2 step in ticks, an L1 step and an L0 step in L2 steps.
     pub const L2_STEP: u64 = 360_000_000_000;
 
-    pub const L1_STEP: u64 = 32 * Gkid::L2_STEP;
+    pub const L1_STEPS: u64 = 32;
 
-    pub const L0_STEP: u64 = 1_024 * Gkid::L2_STEP;
+    pub const L0_STEPS: u64 = 1_024;
 
     // The identifier of the last reading.
     pub const HIGHEST: Gkid = Gkid {
@@ -53,14 +54,15 @@ impl Gkid {
         l2: L2(27),
     };
 
-    // The identifier of a reading: three whole divisions (MS-GKDI 3.1.4.1, step 2).
+    // The identifier of a reading (MS-GKDI 3.1.4.1, step 2): one division down to L2 steps, and that number split.
     pub fn at(time: FileTime) -> Gkid
         ensures { λ r. ⌜ r ≡ gkidAt time ⌝ }
     {
+        let steps = time.0 / Gkid::L2_STEP;
         Gkid {
-            l0: L0((time.0 / Gkid::L0_STEP) as u32),
-            l1: L1((time.0 % Gkid::L0_STEP / Gkid::L1_STEP) as u32),
-            l2: L2((time.0 % Gkid::L1_STEP / Gkid::L2_STEP) as u32),
+            l0: L0((steps / Gkid::L0_STEPS) as u32),
+            l1: L1((steps % Gkid::L0_STEPS / Gkid::L1_STEPS) as u32),
+            l2: L2((steps % Gkid::L1_STEPS) as u32),
         }
     }
 
@@ -71,40 +73,32 @@ impl Gkid {
         (self.l1.0 > 31) | (self.l2.0 > 31)
     }
 
-    // Identifiers compare by L0, then L1, then L2.
-    pub fn is_later_than(self, other: Gkid) -> bool
-        ensures { λ r. ⌜ r ≡ later self other ⌝ }
+    // An L0 group has L1 and L2 from 0 to 31. Asked this way round, a refusal is compiled out of the way of an answer.
+    fn in_group(self) -> bool
+        ensures { λ r. ⌜ indexAbove31 self ≡ not r ⌝ }
     {
-        if self.l0.0 != other.l0.0 {
-            return self.l0.0 > other.l0.0;
-        }
-        if self.l1.0 != other.l1.0 {
-            return self.l1.0 > other.l1.0;
-        }
-        self.l2.0 > other.l2.0
+        !self.index_above_31()
     }
 
-    // 5, then 21. Past the highest identifier no start time fits, so that no sum wraps here.
+    // 5, then 21. What is not past the highest identifier starts within 64 bits, so that no product wraps here.
     pub fn start(self) -> Start
         ensures { λ r. ⌜ r ≡ startOf self ⌝ }
     {
-        if self.index_above_31() {
+        if !self.in_group() {
             return Start::Refused(Refusal::IndexAbove31);
         }
-        if self.is_later_than(Gkid::HIGHEST) {
+        let steps = self.steps();
+        if steps > Gkid::HIGHEST.steps() {
             return Start::Refused(Refusal::StartPastTime);
         }
-        Start::At(FileTime(self.ticks()))
+        Start::At(FileTime(steps * Gkid::L2_STEP))
     }
 
-    // The start time, where 64 bits hold it.
-    fn ticks(self) -> u64
-        requires { ⌜ startTime self < 2 ^ 64 ⌝ }
-        ensures { λ r. ⌜ r ≡ startTime self ⌝ }
+    // The L2 steps from (0, 0, 0) on.
+    fn steps(self) -> u64
+        ensures { λ r. ⌜ r ≡ 1024 * self .l0 .0 + 32 * self .l1 .0 + self .l2 .0 ⌝ }
     {
-        self.l0.0 as u64 * Gkid::L0_STEP
-            + self.l1.0 as u64 * Gkid::L1_STEP
-            + self.l2.0 as u64 * Gkid::L2_STEP
+        self.l0.0 as u64 * Gkid::L0_STEPS + self.l1.0 as u64 * Gkid::L1_STEPS + self.l2.0 as u64
     }
 
     // 5 if an index is above 31; (L0, 0, 0) has none.
@@ -113,7 +107,7 @@ impl Gkid {
     {
         let l0 = self.l0;
         let l1 = self.l1;
-        if self.index_above_31() {
+        if !self.in_group() {
             return Older::Refused(Refusal::IndexAbove31);
         }
         if self.l2.0 > 0 {

@@ -10,9 +10,13 @@ const ROUNDS: usize = 201;
 /// A round lasts about this long on each side: short, so that few rounds are interrupted.
 const ROUND_NANOSECONDS: u128 = 100_000;
 
+/// One round in so many is fast. What disturbs a round adds to its time: who else uses the processor, and, where a call takes
+/// a few nanoseconds, what the side before left to the branch predictor. The fast rounds are the least disturbed.
+const FAST: usize = 20;
+
 /// What a measurement found.
 pub struct Found {
-    /// Each side's nanoseconds a call, the median of the rounds.
+    /// Each side's nanoseconds a call, in its fast rounds.
     sides: [f64; 3],
     /// The library's time over the reference's.
     to_reference: Ratio,
@@ -22,10 +26,10 @@ pub struct Found {
 
 /// A ratio of two sides.
 struct Ratio {
-    /// The median of the rounds' ratios.
-    median: f64,
-    /// Their first and third quartile.
-    spread: (f64, f64),
+    /// That of their fast rounds.
+    fast: f64,
+    /// The quartiles of the ratios of all rounds.
+    quartiles: [f64; 3],
 }
 
 /// Times the sides, round by round.
@@ -35,7 +39,7 @@ pub fn measure(mut sides: Sides) -> Found {
         .map(|first| round(&mut sides, first, calls))
         .collect();
     Found {
-        sides: [LIBRARY, REFERENCE, FACE].map(|side| median(&rounds, side)),
+        sides: [LIBRARY, REFERENCE, FACE].map(|side| fast(&rounds, side)),
         to_reference: ratio(&rounds, REFERENCE),
         to_face: ratio(&rounds, FACE),
     }
@@ -67,17 +71,17 @@ fn round(sides: &mut Sides, first: usize, calls: u32) -> [f64; 3] {
     times
 }
 
-/// A side's median.
-fn median(rounds: &[[f64; 3]], side: usize) -> f64 {
-    sorted(rounds.iter().map(|times| times[side]))[ROUNDS / 2]
+/// A side's time in its fast rounds: that of the slowest of them.
+fn fast(rounds: &[[f64; 3]], side: usize) -> f64 {
+    sorted(rounds.iter().map(|times| times[side]))[ROUNDS / FAST]
 }
 
 /// The library's ratio to another side.
 fn ratio(rounds: &[[f64; 3]], side: usize) -> Ratio {
     let ratios = sorted(rounds.iter().map(|times| times[LIBRARY] / times[side]));
     Ratio {
-        median: ratios[ROUNDS / 2],
-        spread: (ratios[ROUNDS / 4], ratios[3 * ROUNDS / 4]),
+        fast: fast(rounds, LIBRARY) / fast(rounds, side),
+        quartiles: [1, 2, 3].map(|quarter| ratios[quarter * ROUNDS / 4]),
     }
 }
 
@@ -89,7 +93,8 @@ fn sorted(numbers: impl Iterator<Item = f64>) -> Vec<f64> {
 
 /// Prints the two tables.
 pub fn print(operations: &[Row<Found>], growth: &[Series<Found>]) {
-    println!("Ratio: the library's time over the reference's, the median of {ROUNDS} rounds that time every side. Spread: its quartiles.");
+    println!("Ratio: the library's time over the reference's, each that of its fast rounds, one in {FAST} of {ROUNDS}.");
+    println!("All rounds: the ratio of the two in one round; its median, then its first and third quartile.");
     println!(
         "Same face: the reference behind the library's C face, its answer by value and zeros beside a refusal."
     );
@@ -106,7 +111,7 @@ pub fn print(operations: &[Row<Found>], growth: &[Series<Found>]) {
 
 /// Prints the head of a table whose last columns are these.
 fn head(last: &str, columns: usize) {
-    println!("| operation | input | ratio | spread | ratio, same face | spread | {last} |");
+    println!("| operation | input | ratio | all rounds | ratio, same face | all rounds | {last} |");
     println!("|{}", "---|".repeat(6 + columns));
 }
 
@@ -114,8 +119,8 @@ fn head(last: &str, columns: usize) {
 fn line<const N: usize>(row: &Row<Found>, last: [f64; N]) {
     print!("| {} | {} |", row.operation, row.input);
     for ratio in [&row.found.to_reference, &row.found.to_face] {
-        let (low, high) = ratio.spread;
-        print!(" {:.2} | {low:.2} to {high:.2} |", ratio.median);
+        let [low, median, high] = ratio.quartiles;
+        print!(" {:.2} | {median:.2}, {low:.2} to {high:.2} |", ratio.fast);
     }
     last.iter().for_each(|number| print!(" {number:.1} |"));
     println!();

@@ -61,3 +61,8 @@ fn choice_by_the_reach() {
 fn readings_and_steps() {
     steps::STEPS.check();
 }
+
+#[test]
+fn every_step_of_the_clock() {
+    steps::count_up();
+}

@@ -8,9 +8,9 @@ pub older-spec : {M : Type 1} → statement M
 unfolding olderOf
 older-spec = tie.close (tie.spec
     (λ c κs. search needs)
-    (λ c. rw (← c .before .index-above-31 .ensures, c .if1 .taken))
+    (λ c. rw (c .before .in-group .ensures, c .if1 .taken))
     (λ c. search needs)
-    (λ c. search (← c .before .before .before .before .index-above-31 .ensures, c .before .before .before .if1 .left, lt-ltb))
+    (λ c. search (c .before .before .before .before .in-group .ensures, c .before .before .before .if1 .left, lt-ltb))
     (λ c. search needs)
-    (λ c. search (← c .before .before .before .before .before .before .index-above-31 .ensures, c .before .before .before .before .before .if1 .left, lt-ltb, le-ltb))
-    (λ c. search (← c .before .before .before .before .before .index-above-31 .ensures, c .before .before .before .before .if1 .left, le-ltb)))
+    (λ c. search (c .before .before .before .before .before .before .in-group .ensures, c .before .before .before .before .before .if1 .left, lt-ltb, le-ltb))
+    (λ c. search (c .before .before .before .before .before .in-group .ensures, c .before .before .before .before .if1 .left, le-ltb)))
