@@ -3,10 +3,10 @@
 
 use std::hint::black_box;
 
-use crate::sides::{side, Row, Series, Sides};
+use crate::sides::{Row, Series, Sides, FACE, LIBRARY, LOOP, REFERENCE, TURN};
 
 /// Calls of a side. Each call of one takes the same number of instructions.
-const CALLS: u32 = 100;
+const CALLS: u32 = 13 * TURN;
 
 /// The name that callgrind knows.
 #[no_mangle]
@@ -17,10 +17,11 @@ fn counted(side: &mut dyn FnMut(u32)) {
     black_box(());
 }
 
-/// Counts a loop that does nothing, and then each side.
-pub fn measure(sides: Sides) {
-    counted(&mut side(|| black_box(())));
-    sides.into_iter().for_each(counted);
+/// Counts the loop alone, and then each side.
+pub fn measure(mut sides: Sides) {
+    [LOOP, LIBRARY, REFERENCE, FACE]
+        .into_iter()
+        .for_each(|side| counted(&mut sides[side]));
 }
 
 /// Prints a line for each row, in the order of counting: calls, operation and input, with tabs between.

@@ -13,7 +13,7 @@ use reference::time::Gkid;
 
 use crate::face;
 use crate::records as make;
-use crate::sides::{side, Meter};
+use crate::sides::{empty, side, Meter, TURN};
 
 /// Now: (5, 3, 7).
 const CLOCK: u64 = 1_880_280_000_000_000;
@@ -40,14 +40,26 @@ fn measure<F, P: Copy, A: Answer, B>(
     ask: impl Fn(P) -> A + Copy,
     reference: impl Fn() -> B,
 ) -> F {
+    in_turns::<1, _, _, _, _>(meter, number, faces, ask, reference)
+}
+
+/// The same, with so many calls in a turn of the loop.
+fn in_turns<const IN_A_TURN: u32, F, P: Copy, A: Answer, B>(
+    meter: Meter<F>,
+    number: u32,
+    faces: [P; 2],
+    ask: impl Fn(P) -> A + Copy,
+    reference: impl Fn() -> B,
+) -> F {
     let [library, face] = black_box(faces);
     let answer = ask(library);
     assert_eq!(number, answer.refusal(), "the input is answered otherwise");
     assert_eq!(answer, ask(face));
     meter([
-        &mut side(move || _ = black_box(&ask(library))),
-        &mut side(move || _ = black_box(&reference())),
-        &mut side(move || _ = black_box(&ask(face))),
+        &mut side::<IN_A_TURN>(move || _ = black_box(&ask(library))),
+        &mut side::<IN_A_TURN>(move || _ = black_box(&reference())),
+        &mut side::<IN_A_TURN>(move || _ = black_box(&ask(face))),
+        &mut empty::<IN_A_TURN>(),
     ])
 }
 
@@ -177,18 +189,19 @@ fn write<F, P: Copy>(
     let mut outs = [(); 3].map(|()| vec![0; record.len()]);
     let [a, b, c] = &mut outs;
     let found = meter([
-        &mut side(move || {
+        &mut side::<1>(move || {
             output.ready(a);
             black_box(&ask(library, a));
         }),
-        &mut side(move || {
+        &mut side::<1>(move || {
             output.ready(b);
             _ = black_box(&reference(b));
         }),
-        &mut side(move || {
+        &mut side::<1>(move || {
             output.ready(c);
             black_box(&ask(face, c));
         }),
+        &mut empty::<1>(),
     ]);
     assert!(outs.iter().all(|out| out == record));
     found
@@ -348,7 +361,8 @@ pub fn form_reach<F>(meter: Meter<F>) -> F {
     )
 }
 
-/// A function of a number or an identifier.
+/// A function of a number or an identifier. It takes a few nanoseconds, so that with one call in a turn the places of the call
+/// and of the loop would be measured with it.
 fn value<F, I: Copy, J: Copy, A: Answer, B>(
     meter: Meter<F>,
     faces: [unsafe extern "C" fn(I) -> A; 2],
@@ -357,7 +371,7 @@ fn value<F, I: Copy, J: Copy, A: Answer, B>(
     same: J,
 ) -> F {
     let reference = black_box(reference);
-    measure(
+    in_turns::<TURN, _, _, _, _>(
         meter,
         0,
         faces,

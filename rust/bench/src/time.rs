@@ -2,7 +2,7 @@
 
 use std::time::Instant;
 
-use crate::sides::{Row, Series, Sides, FACE, LIBRARY, REFERENCE};
+use crate::sides::{Row, Series, Sides, FACE, LIBRARY, REFERENCE, TURN};
 
 /// Rounds of a measurement; each times every side, one straight after the other.
 const ROUNDS: usize = 201;
@@ -45,15 +45,16 @@ pub fn measure(mut sides: Sides) -> Found {
     }
 }
 
-/// How many calls fill a round.
+/// How many calls fill a round: a multiple of `TURN`.
 fn calls_in_a_round(side: &mut dyn FnMut(u32)) -> u32 {
-    let mut calls = 1;
+    let mut calls = TURN;
     loop {
         let start = Instant::now();
         side(calls);
         let taken = start.elapsed().as_nanos();
         if taken >= ROUND_NANOSECONDS / 4 {
-            return (u128::from(calls) * ROUND_NANOSECONDS / taken).max(1) as u32;
+            let calls = (u128::from(calls) * ROUND_NANOSECONDS / taken) as u32;
+            return calls.next_multiple_of(TURN);
         }
         calls *= 4;
     }
