@@ -3,7 +3,7 @@
 ghost use mathlib.Core.Path.{_≡_};
 ghost use mathlib.Core.Bool.{not};
 ghost use Prim.Native.Nat.{_+_, _*_};
-ghost use Rattle.gkid.specs.Identifier.{indexAbove31};
+ghost use Rattle.gkid.specs.Identifier.{indexAbove31, InGroup};
 ghost use Rattle.gkid.specs.Conversion.{gkidAt};
 ghost use Rattle.gkid.specs.Start.{startOf};
 ghost use Rattle.gkid.specs.Older.{olderOf};
@@ -94,8 +94,9 @@ impl Gkid {
         Start::At(FileTime(steps * Gkid::L2_STEP))
     }
 
-    // The L2 steps from (0, 0, 0) on.
+    // The L2 steps from (0, 0, 0) on. In a group no two identifiers have as many.
     fn steps(self) -> u64
+        requires { ⌜ InGroup self ⌝ }
         ensures { λ r. ⌜ r ≡ 1024 * self .l0 .0 + 32 * self .l1 .0 + self .l2 .0 ⌝ }
     {
         self.l0.0 as u64 * Gkid::L0_STEPS + self.l1.0 as u64 * Gkid::L1_STEPS + self.l2.0 as u64
