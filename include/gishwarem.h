@@ -23,8 +23,9 @@ extern "C" {
 
 /* The version of this header. It is raised where an answer or a signature changes; the built library has its own, which
  * gw_version answers: a host may compare them once.
- * 2: zeros in place of a SID, which were refused with 12, are accepted, with the kind GW_SID_NO_HINT. */
-#define GW_VERSION 2u
+ * 2: zeros in place of a SID, which were refused with 12, are accepted, with the kind GW_SID_NO_HINT.
+ * 3: a public envelope at L2 index 31 with a key of its public key length, which was refused with 11, is accepted and written. */
+#define GW_VERSION 3u
 
 /* Refusal numbers. */
 #define GW_ACCEPTED 0u            /* not refused */
@@ -203,8 +204,8 @@ typedef struct gw_bodies {
     gw_part agreement_parameters; /* secret agreement parameters */
     gw_part domain;               /* domain name */
     gw_part forest;               /* forest name */
-    gw_part l1_key;               /* L1 key */
-    gw_part l2_key;               /* L2 key */
+    gw_part l1_key;               /* L1 key; a public envelope has none */
+    gw_part l2_key;               /* L2 key, or the public key of a public envelope */
 } gw_bodies;
 
 /* A Group Key Envelope. */

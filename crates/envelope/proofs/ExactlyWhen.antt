@@ -1,4 +1,4 @@
--- An envelope is accepted exactly when it is well formed, as MS-GKDI 2.2.4 states it, narrowed by document 01.
+-- An envelope is accepted exactly when it is well formed, as MS-GKDI 2.2.4 states it, narrowed by document 01, and by the house rule for its keys.
 use Rattle.lemmas.proofs.Basics.{ℕ, arith, not, List, _≡_, sym, ap, _∙_, length, le-ltb, ltb-false, eq-eqb, eqb-true}
 use Rattle.lemmas.proofs.Cases.{not-false}
 use Rattle.refusal.specs.Chain.{unlessRefused}

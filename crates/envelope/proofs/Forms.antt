@@ -1,6 +1,5 @@
 -- Laws of the form that an envelope's keys make: its seed keys are the keys that are there, unless the envelope is public.
-use Rattle.lemmas.proofs.Basics.{ℕ, Bool, true, false, cond, not, _&&_, and-false, true≢false, List, _⊎_, inl, inr, ⊎-elim, _≡_, refl, sym, _∙_, eqb, eq-eqb}
-use Rattle.lemmas.proofs.Cases.{by-cases}
+use Rattle.lemmas.proofs.Basics.{ℕ, Bool, true, false, cond, not, _&&_, and-false, List, _≡_, refl, _∙_, eqb, eq-eqb}
 use Rattle.refusal.specs.declared.Outcome.the-variants.{Accepted}
 use Rattle.refusal.specs.Chain.{firstOf}
 use Rattle.refusal.proofs.Chains.{first-next}
@@ -8,8 +7,8 @@ use Rattle.gkid.specs.declared.Gkid.{Gkid}
 use Rattle.gkid.proofs.Order.{not-above}
 use Rattle.keys.specs.declared.Form.the-variants.{Keyless, L1Only, L2Only, Both, Public}
 use Rattle.keys.specs.declared.SeedKeys.{SeedKeys}
-use Rattle.keys.specs.Forms.{keysOf, seedKeyLength, seedChecks}
-use Rattle.keys.proofs.ExactlyWhen.{well-formed-keys}
+use Rattle.keys.specs.Forms.{keysOf, seedChecks}
+use Rattle.keys.proofs.FormLaws.{seedKeysOf, seed-64, seed-alone}
 use Rattle.envelope.specs.declared.Envelope.{Envelope}
 use Rattle.envelope.specs.Layout.{headOf, isPublic, lengthsOf, bodiesOf}
 use Rattle.envelope.specs.Reading.{shown, envelopeOf, envelopeNumber, formOf}
@@ -17,7 +16,7 @@ use Rattle.envelope.proofs.ExactlyWhen.{accepted-keys}
 
 -- the seed keys that are there
 abbrev pub seedKeys : Envelope → SeedKeys
-seedKeys e = record { l1 = not (isPublic (e .head .flags)) && not (eqb (e .bodies .«l1_key» .len) 0); l2 = not (isPublic (e .head .flags)) && not (eqb (e .bodies .«l2_key» .len) 0) }
+seedKeys e = seedKeysOf (isPublic (e .head .flags)) (e .bodies .«l1_key» .len) (e .bodies .«l2_key» .len)
 
 pub form-keys : (e : Envelope) → keysOf (formOf e) ≡ seedKeys e
 unfolding formOf keysOf
@@ -51,30 +50,12 @@ module _ (s : List ℕ) (z : envelopeNumber (envelopeOf s) ≡ 0) where
   abbrev at : Gkid
   at = headOf s .at
 
-  -- each is there, with 64 bytes, where the key rule lets it be
-  pub l1-there : own .l1 ≡ true → (lengthsOf s .«l1_key» ≡ 64) × (at .l1 .0 ≡ 0 → at .l2 .0 ≡ 31)
+  -- each that is there has 64 bytes
+  pub keys-64 : (own .l1 ≡ true → lengthsOf s .«l1_key» ≡ 64) × (own .l2 ≡ true → lengthsOf s .«l2_key» ≡ 64)
   unfolding shown bodiesOf
-  l1-there k = ⊎-elim (λ none. absurd (true≢false (sym k ∙ absent-l1 (shown s) none))) (λ some. (some .0, some .1 .1)) (accepted-keys s z .1 .l1-key)
-
-  pub l2-there : own .l2 ≡ true → (lengthsOf s .«l2_key» ≡ 64) × (at .l2 .0 ≡ 31 → ⊥)
-  unfolding shown bodiesOf
-  l2-there k = ⊎-elim (λ none. absurd (true≢false (sym k ∙ absent-l2 (shown s) none))) (λ some. (some .1 .0 seed, some .0)) (accepted-keys s z .1 .l2-key)
-    where
-      seed : isPublic (headOf s .flags) ≡ false
-      seed = by-cases (λ p. isPublic (headOf s .flags) ≡ p → p ≡ false) (isPublic (headOf s .flags)) (λ _ p. absurd (true≢false (sym k ∙ rw (public-none (shown s) p)))) (λ _ _. refl) refl
+  keys-64 = rw (form-keys (shown s)) (seed-64 _ _ _ _ _ (accepted-keys s z .1))
 
   -- A seed envelope at that identifier with just those keys is accepted too.
   pub seed-accepted : firstOf (seedChecks own at) ≡ Accepted
-  unfolding seedChecks
-  seed-accepted =
-      first-next _ _ _ (not-above at (accepted-keys s z .0))
-      ∙ well-formed-keys false at 0 _ _ (record {
-        l1-key = by-cases (λ t. own .l1 ≡ t → (seedKeyLength t ≡ 0) ⊎ ((seedKeyLength t ≡ 64) × ((false ≡ false) × (at .l1 .0 ≡ 0 → at .l2 .0 ≡ 31)))) (own .l1)
-            (λ _ k. inr (refl, (refl, l1-there k .1)))
-            (λ _ _. inl refl)
-            refl;
-        l2-key = by-cases (λ t. own .l2 ≡ t → (seedKeyLength t ≡ 0) ⊎ ((at .l2 .0 ≡ 31 → ⊥) × ((false ≡ false → seedKeyLength t ≡ 64) × (false ≡ true → seedKeyLength t ≡ 0)))) (own .l2)
-            (λ _ k. inr (l2-there k .1, (λ _. refl, λ e. absurd (true≢false (sym e)))))
-            (λ _ _. inl refl)
-            refl;
-      })
+  unfolding seedChecks shown bodiesOf
+  seed-accepted = first-next _ _ _ (not-above at (accepted-keys s z .0)) ∙ rw (form-keys (shown s)) (seed-alone _ at _ _ _ (accepted-keys s z .1))

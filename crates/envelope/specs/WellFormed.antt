@@ -1,4 +1,5 @@
--- MS-GKDI 2.2.4, narrowed by document 01: when an envelope is well formed, without an order of checks.
+-- MS-GKDI 2.2.4, narrowed by document 01, and for the keys' lengths the house rule of document 02, No. 4: when an envelope is well formed,
+-- without an order of checks.
 use Prim.Native.Nat.{ℕ, _≤_}
 use mathlib.Core.List.{List}
 use mathlib.Core.Path.{_≡_}
@@ -26,5 +27,5 @@ pub record WellFormed (s : List ℕ) : Type 0 where
   pub agreement : text.WellFormed (bodyAt s Agreement)
   pub domain : text.WellFormed (bodyAt s Domain)
   pub forest : text.WellFormed (bodyAt s Forest)
-  -- the keys' lengths
+  -- the keys' lengths; by the house rule, against the source, a public envelope may carry its key at L2 index 31 too
   pub keys : keys.WellFormed (isPublic (headOf s .flags)) (headOf s .at) (headOf s .«public_length») (lengthsOf s .«l1_key») (lengthsOf s .«l2_key»)

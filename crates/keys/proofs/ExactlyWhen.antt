@@ -13,7 +13,7 @@ abbrev L1Rule : Bool → Gkid → ℕ → Type 0
 L1Rule public at len = (len ≡ 0) ⊎ ((len ≡ 64) × ((public ≡ false) × (at .l1 .0 ≡ 0 → at .l2 .0 ≡ 31)))
 
 abbrev L2Rule : Bool → Gkid → ℕ → ℕ → Type 0
-L2Rule public at publicLen len = (len ≡ 0) ⊎ ((at .l2 .0 ≡ 31 → ⊥) × ((public ≡ false → len ≡ 64) × (public ≡ true → len ≡ publicLen)))
+L2Rule public at publicLen len = (len ≡ 0) ⊎ (((len ≡ 64) × ((public ≡ false) × (at .l2 .0 ≡ 31 → ⊥))) ⊎ ((len ≡ publicLen) × (public ≡ true)))
 
 l1-rule : (public : Bool) (at : Gkid) (len : ℕ) → l1KeyAllowed public at len ≡ true → L1Rule public at len
 unfolding l1KeyAllowed
@@ -40,16 +40,17 @@ rule-l1 false at len (inr f) =
 
 l2-rule : (public : Bool) (at : Gkid) (publicLen len : ℕ) → l2KeyAllowed public at publicLen len ≡ true → L2Rule public at publicLen len
 unfolding l2KeyAllowed
-l2-rule public at publicLen len =
-    by-cases (λ t. cond t (eqb len 0) (eqb len 0 || eqb len (cond public publicLen 64)) ≡ true → L2Rule public at publicLen len) (eqb (at .l2 .0) 31)
+l2-rule true at publicLen len = λ e. ⊎-elim (λ z. inl (eqb-true len 0 z)) (λ l. inr (inr (eqb-true len publicLen l, refl))) (or-true _ _ e)
+l2-rule false at publicLen len =
+    by-cases (λ t. cond t (eqb len 0) (eqb len 0 || eqb len 64) ≡ true → L2Rule false at publicLen len) (eqb (at .l2 .0) 31)
     (λ q e. inl (eqb-true len 0 e))
-    (λ q e. ⊎-elim (λ z. inl (eqb-true len 0 z)) (λ l. inr (eqb-false (at .l2 .0) 31 q, (λ p. rw p at (eqb-true len (cond public publicLen 64) l), λ p. rw p at (eqb-true len (cond public publicLen 64) l)))) (or-true _ _ e))
+    (λ q e. ⊎-elim (λ z. inl (eqb-true len 0 z)) (λ l. inr (inl (eqb-true len 64 l, (refl, eqb-false (at .l2 .0) 31 q)))) (or-true _ _ e))
 
 rule-l2 : (public : Bool) (at : Gkid) (publicLen len : ℕ) → L2Rule public at publicLen len → l2KeyAllowed public at publicLen len ≡ true
 unfolding l2KeyAllowed
-rule-l2 public at publicLen len (inl z) = by-cases (λ t. cond t (eqb len 0) (eqb len 0 || eqb len (cond public publicLen 64)) ≡ true) (eqb (at .l2 .0) 31) (λ _. eq-eqb len 0 z) (λ _. rw (eq-eqb len 0 z))
-rule-l2 true at publicLen len (inr f) = rw (ne-eqb (at .l2 .0) 31 (f .0)) (true-or (eqb len 0) (eq-eqb len publicLen (f .1 .1 refl)))
-rule-l2 false at publicLen len (inr f) = rw (ne-eqb (at .l2 .0) 31 (f .0)) (true-or (eqb len 0) (eq-eqb len 64 (f .1 .0 refl)))
+rule-l2 public at publicLen len (inl z) = by-cases (λ t. cond t (eqb len 0) (eqb len 0 || eqb len (cond public publicLen 64)) ≡ true) (not public && eqb (at .l2 .0) 31) (λ _. eq-eqb len 0 z) (λ _. rw (eq-eqb len 0 z))
+rule-l2 public at publicLen len (inr (inl f)) = rw (f .1 .0, ne-eqb (at .l2 .0) 31 (f .1 .1)) (true-or (eqb len 0) (eq-eqb len 64 (f .0)))
+rule-l2 public at publicLen len (inr (inr f)) = rw (f .1) (true-or (eqb len 0) (eq-eqb len publicLen (f .0)))
 
 -- Accepted, so well formed.
 pub keys-well-formed : (public : Bool) (at : Gkid) (publicLen l1Len l2Len : ℕ) → firstOf (keyChecks public at publicLen l1Len l2Len) ≡ Accepted

@@ -1,5 +1,6 @@
--- Laws of the key rule: no key at all is allowed, what it allows of seed keys, and that the form for seed rights is never refused by it.
-use Rattle.lemmas.proofs.Basics.{ℕ, _<_, arith, Bool, true, false, cond, not, _&&_, _||_, and-false, inl, ⊎-elim, _≡_, refl, ap, ap₂, eqb}
+-- Laws of the key rule: no key at all is allowed, what it allows of seed keys and asks of a public one, and that the form for seed rights is
+-- never refused by it.
+use Rattle.lemmas.proofs.Basics.{ℕ, _<_, arith, Bool, true, false, cond, not, _&&_, _||_, and-false, true≢false, false≢true, inl, ⊎-elim, _≡_, refl, sym, ap, ap₂, _∙_, eqb}
 use Rattle.lemmas.proofs.Cases.{cond-cases}
 use Rattle.refusal.specs.declared.Refusal.the-variants.{IndexAbove31}
 use Rattle.refusal.specs.declared.Outcome.the-variants.{Accepted, Refused}
@@ -20,9 +21,45 @@ use Rattle.keys.proofs.ExactlyWhen.{well-formed-keys}
 pub none-accepted : (public : Bool) (at : Gkid) (publicLen : ℕ) → firstOf (keyChecks public at publicLen 0 0) ≡ Accepted
 none-accepted public at publicLen = well-formed-keys public at publicLen 0 0 (record { l1-key = inl refl; l2-key = inl refl })
 
--- An envelope that carries both keys is not at L2 = 31.
+-- An envelope that carries both keys is a seed envelope, and not at L2 = 31.
 pub both-keys : (public : Bool) (at : Gkid) (publicLen l1Len l2Len : ℕ) → WellFormed public at publicLen l1Len l2Len → 0 < l1Len → 0 < l2Len → at .l2 .0 ≡ 31 → ⊥
-both-keys public at publicLen l1Len l2Len w l1 l2 last = ⊎-elim (λ none. omega arith) (λ some. some .0 last) (w .l2-key)
+both-keys public at publicLen l1Len l2Len w l1 l2 last =
+    ⊎-elim (λ none. omega arith) (λ seed. ⊎-elim (λ none. omega arith) (⊎-elim (λ some. some .1 .1 last) (λ own. true≢false (sym (own .1) ∙ seed .1 .0))) (w .l2-key)) (w .l1-key)
+
+-- The public key length has no say in a seed envelope, and the identifier none in a public one.
+pub seed-checks : (at : Gkid) (p q l1Len l2Len : ℕ) → keyChecks false at p l1Len l2Len ≡ keyChecks false at q l1Len l2Len
+unfolding keyChecks keysAllowed l2KeyAllowed
+seed-checks at p q l1Len l2Len = refl
+
+pub public-checks : (at i : Gkid) (publicLen l1Len l2Len : ℕ) → keyChecks true at publicLen l1Len l2Len ≡ keyChecks true i publicLen l1Len l2Len
+unfolding keyChecks keysAllowed l1KeyAllowed l2KeyAllowed
+public-checks at i publicLen l1Len l2Len = refl
+
+-- the seed keys among keys of these lengths: those that are there, unless the envelope is public
+abbrev pub seedKeysOf : Bool → ℕ → ℕ → SeedKeys
+seedKeysOf public l1Len l2Len = record { l1 = not public && not (eqb l1Len 0); l2 = not public && not (eqb l2Len 0) }
+
+-- the lengths of a seed envelope's keys
+seed-lengths : {at : Gkid} {publicLen l1Len l2Len : ℕ} → WellFormed false at publicLen l1Len l2Len
+    → (seedKeyLength (not (eqb l1Len 0)) ≡ l1Len) × (seedKeyLength (not (eqb l2Len 0)) ≡ l2Len)
+seed-lengths w = (
+  ⊎-elim (λ none. rw none) (λ some. rw (some .0)) (w .l1-key),
+  ⊎-elim (λ none. rw none) (⊎-elim (λ some. rw (some .0)) (λ own. absurd (false≢true (own .1)))) (w .l2-key),
+)
+
+-- A seed key that is there has 64 bytes.
+pub seed-64 : (public : Bool) (at : Gkid) (publicLen l1Len l2Len : ℕ) → WellFormed public at publicLen l1Len l2Len
+    → (seedKeysOf public l1Len l2Len .l1 ≡ true → l1Len ≡ 64) × (seedKeysOf public l1Len l2Len .l2 ≡ true → l2Len ≡ 64)
+seed-64 true at publicLen l1Len l2Len w = (λ k. absurd (false≢true k), λ k. absurd (false≢true k))
+seed-64 false at publicLen l1Len l2Len w = let long = seed-lengths w in (λ k. sym (long .0) ∙ rw k, λ k. sym (long .1) ∙ rw k)
+
+-- A seed envelope at that identifier with just the seed keys is allowed too.
+pub seed-alone : (public : Bool) (at : Gkid) (publicLen l1Len l2Len : ℕ) → WellFormed public at publicLen l1Len l2Len
+    → firstOf (keyChecks false at 0 (seedKeyLength (seedKeysOf public l1Len l2Len .l1)) (seedKeyLength (seedKeysOf public l1Len l2Len .l2))) ≡ Accepted
+seed-alone true at publicLen l1Len l2Len w = none-accepted false at 0
+seed-alone false at publicLen l1Len l2Len w =
+    let long = seed-lengths w in
+    rw (long .0, long .1, seed-checks at 0 publicLen l1Len l2Len) (well-formed-keys false at publicLen l1Len l2Len w)
 
 -- A seed envelope's 64-byte keys are allowed but for an L1 key at L1 = 0 and L2 not 31, and an L2 key at L2 = 31.
 pub seed-keys : (keys : SeedKeys) (at : Gkid) → keysAllowed false at 0 (seedKeyLength (keys .l1)) (seedKeyLength (keys .l2))

@@ -1,2 +1,3 @@
 pub mod ExactlyWhen
 pub mod FormLaws
+pub mod HouseRule

@@ -1,3 +1,4 @@
 pub mod KeyRule
 pub mod WellFormed
 pub mod Forms
+pub mod Published

@@ -1,5 +1,5 @@
-// Document 01, "Group Key Envelope", 11, and "The GetKey decision", Form: the rule on the lengths of an envelope's two keys, a key
-// written, and the forms, which say what keys there are.
+// Document 01, "Group Key Envelope", 11, with the house rule of document 02, No. 4, and "The GetKey decision", Form: the rule on the
+// lengths of an envelope's two keys, a key written, and the forms, which say what keys there are.
 ghost use mathlib.Core.Path.{_≡_};
 ghost use mathlib.Core.Bool.{false, not};
 ghost use Rattle.refusal.specs.Chain.{firstOf};
@@ -38,15 +38,15 @@ fn l1_key_allowed(public: bool, at: Gkid, len: usize) -> bool
     len == 0 || len == 64
 }
 
-// L2 key: 0 if L2 = 31; else 0, or 64 for a seed, or the public key length for a public envelope.
+// L2 key: 0 for a seed if L2 = 31; else 0, or 64 for a seed, or the public key length for a public envelope.
 fn l2_key_allowed(public: bool, at: Gkid, public_length: usize, len: usize) -> bool
     ensures { λ r. ⌜ r ≡ l2KeyAllowed public at «public_length» len ⌝ }
 {
-    if at.l2.0 == 31 {
-        return len == 0;
-    }
     if public {
         return len == 0 || len == public_length;
+    }
+    if at.l2.0 == 31 {
+        return len == 0;
     }
     len == 0 || len == 64
 }

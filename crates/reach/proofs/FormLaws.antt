@@ -11,7 +11,9 @@ use Rattle.gkid.specs.Identifier.{indexAbove31}
 use Rattle.keys.specs.declared.Form.{Form}
 use Rattle.keys.specs.declared.Form.the-variants.{Keyless, Public}
 use Rattle.keys.specs.Forms.{keysOf, seedChecks}
+use Rattle.keys.specs.Published.{publishedSeedChecks}
 use Rattle.keys.proofs.FormLaws.{keyless-checks}
+use Rattle.keys.proofs.HouseRule.{forms-as-published}
 use Rattle.reach.specs.Reached.{reaches}
 use Rattle.lemmas.specs.Counting.{bit, count}
 use Rattle.reach.specs.Bits.{rowWhere, table, bitAt}
@@ -30,6 +32,11 @@ refused-nothing form at r = of (firstOf (seedChecks (keysOf form) at))
 pub refused-total : (r : Refusal) → reachTotal (refusedReach r) ≡ 0
 unfolding reachTotal refusedReach totalOf emptyMap count bitAt bit
 refused-total r = refl
+
+-- A form's reach is that by the published key rule too, 5 and 11 included: the house rule changes none.
+pub form-as-published : (form : Form) (at : Gkid) → formReach form at ≡ unlessRefused refusedReach (firstOf (publishedSeedChecks (keysOf form) at)) (mapReach (keysOf form) at)
+unfolding formReach keysReach
+form-as-published form at = rw (forms-as-published (keysOf form) at)
 
 -- Keyless and PUBLIC: 5 where an index is above 31, never 11, and an empty map.
 pub keyless-reach : (at : Gkid) → formReach Keyless at ≡ record { outcome = cond (indexAbove31 at) (Refused IndexAbove31) Accepted; rows = emptyMap }

@@ -26,7 +26,7 @@ use Rattle.envelope.specs.Layout.{isPublic, bodySpan, headOf, lengthsOf, bodies
 use Rattle.envelope.specs.Reading.{envelopeChecks, envelopeOf, envelopeNumber, shown, spanOf, envelopePart, formOf}
 use Rattle.envelope.proofs.Reading.{accepted-shown, part-inside}
 use Rattle.envelope.proofs.ExactlyWhen.{accepted-keys}
-use Rattle.envelope.proofs.Forms.{absent-l1, absent-l2, public-none, l1-there, l2-there}
+use Rattle.envelope.proofs.Forms.{absent-l1, absent-l2, public-none, keys-64}
 use Rattle.serving.specs.declared.SeedKey.{SeedKey}
 use Rattle.serving.specs.declared.SeedKey.the-variants.{L1, L2}
 use Rattle.serving.specs.declared.Served.{Served}
@@ -84,9 +84,9 @@ module _ (s : List ℕ) (i : Gkid) (z : envelopeNumber (envelopeOf s) ≡ 0) whe
   key-says root same =
       let keys = keysOf (formOf (shown s)) in
       cond-cases (Says s root i) (keys .l2 && l2Reaches (headOf s .at) i)
-      (λ q. let b = both-true (keys .l2) _ q in (reached-serves root same (true-or (keys .l1 && l1Reaches (headOf s .at) i) q), key-is L2 (l2-there s z (b .0) .0) (b .1)))
+      (λ q. let b = both-true (keys .l2) _ q in (reached-serves root same (true-or (keys .l1 && l1Reaches (headOf s .at) i) q), key-is L2 (keys-64 s z .1 (b .0)) (b .1)))
       (λ p. cond-cases (Says s root i) (keys .l1 && l1Reaches (headOf s .at) i)
-      (λ q. let b = both-true (keys .l1) _ q in (reached-serves root same (rw q), key-is L1 (l1-there s z (b .0) .0) (b .1)))
+      (λ q. let b = both-true (keys .l1) _ q in (reached-serves root same (rw q), key-is L1 (keys-64 s z .0 (b .0)) (b .1)))
       (λ q serves. true≢false (sym (serves .reached) ∙ accepted-bits s i z ∙ false-or q p)))
 
 -- An envelope serves by a key exactly where it is accepted, has that root and L0, and reaches the identifier.
@@ -127,7 +127,7 @@ module _ (s : List ℕ) (root : RootId) (i : Gkid) (serves : Serves s root i) wh
 -- No identifier is reached by both keys of one accepted envelope.
 pub reached-by-one : (s : List ℕ) (i : Gkid) → envelopeNumber (envelopeOf s) ≡ 0 → keysOf (formOf (shown s)) .l1 ≡ true → keysOf (formOf (shown s)) .l2 ≡ true
     → l1Reaches (headOf s .at) i ≡ true → l2Reaches (headOf s .at) i ≡ true → ⊥
-reached-by-one s i z k1 k2 = not-by-both _ (headOf s .at) i _ _ _ (accepted-keys s z .1) (some _ (l1-there s z k1 .0)) (some _ (l2-there s z k2 .0))
+reached-by-one s i z k1 k2 = not-by-both _ (headOf s .at) i _ _ _ (accepted-keys s z .1) (some _ (keys-64 s z .0 k1)) (some _ (keys-64 s z .1 k2))
   where
     some : (n : ℕ) → n ≡ 64 → 0 < n
     some n h = omega arith

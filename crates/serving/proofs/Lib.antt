@@ -1,2 +1,3 @@
 pub mod Reaching
 pub mod Choosing
+pub mod HouseRule

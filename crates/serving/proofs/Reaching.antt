@@ -1,5 +1,5 @@
 -- Laws of the reach of an envelope: the map of its own seed keys; and a form's reach is that of an envelope which is written with just those keys.
-use Rattle.lemmas.proofs.Basics.{ℕ, _≤_, Bool, true, false, not, List, _≡_, refl, sym, _∙_, eqb, length, le-ltb}
+use Rattle.lemmas.proofs.Basics.{ℕ, _≤_, Bool, true, false, not, List, _≡_, refl, sym, ap, _∙_, eqb, length, le-ltb}
 use Rattle.refusal.specs.declared.Outcome.{Outcome}
 use Rattle.refusal.specs.declared.Outcome.the-variants as outcome
 use Rattle.refusal.specs.Chain.{firstOf, unlessRefused}
@@ -7,7 +7,7 @@ use Rattle.refusal.proofs.Chains.{first-next, first-after, accepted-append, fol
 use Rattle.gkid.specs.declared.Gkid.{Gkid}
 use Rattle.keys.specs.declared.Form.{Form}
 use Rattle.keys.specs.Forms.{keysOf, seedKeyLength, seedChecks}
-use Rattle.keys.specs.KeyRule.{keyChecks, keysAllowed, l1KeyAllowed, l2KeyAllowed}
+use Rattle.keys.proofs.FormLaws.{seed-checks}
 use Rattle.text.specs.WellFormed as text
 use Rattle.text.proofs.ExactlyWhen.{well-formed-text}
 use Rattle.reach.specs.Reached.{reaches}
@@ -49,11 +49,11 @@ module _ (form : Form) (h : Head) (g : Given) (fit : Fit h) (c : Carries form h 
 
   -- its checks come to the form's
   same-checks : firstOf (envelopeChecks written) ≡ firstOf (seedChecks (keysOf form) (h .at))
-  unfolding writeChecks seedChecks bodyChecks fourTexts keyChecks keysAllowed l1KeyAllowed l2KeyAllowed
+  unfolding writeChecks seedChecks bodyChecks fourTexts
   same-checks =
       let texts = accepted-append _ _ (accepted-append _ _ (accepted-append _ _ (well-formed-text _ (c .kdf)) (well-formed-text _ (c .agreement))) (well-formed-text _ (c .domain))) (well-formed-text _ (c .forest)) in
       write-checks h g fit ∙ first-next _ _ _ (le-ltb 65535 _ (c .limit))
-      ∙ first-after _ _ _ _ (λ _. sym (follows (fourTexts (g .kdf) (g .agreement) (g .domain) (g .forest)) _ refl texts (rw (c .seed, c .l1-key, c .l2-key))))
+      ∙ first-after _ _ _ _ (λ _. sym (follows (fourTexts (g .kdf) (g .agreement) (g .domain) (g .forest)) _ refl texts (rw (c .seed, c .l1-key, c .l2-key) (ap firstOf (seed-checks (h .at) 0 (h .«public_length») _ _)))))
 
   -- its seed keys are the form's
   same-keys : keysOf (formOf (shown written)) ≡ keysOf form

@@ -14,6 +14,8 @@ pub fn run() {
     rooms();
     refusals();
     orders();
+    at_31();
+    refused_at_31();
 }
 
 fn rooms() {
@@ -57,7 +59,112 @@ fn orders() {
     write(b"envelope writer: 11 before 13: ", 0, 3, 0, 2, 0, 63);
 }
 
-// An envelope at (5, l1, 7) written into `room` bytes, whose KDF algorithm is the first n bytes of this letter and a zero, with
+// Document 02, No. 4: a public envelope at L2 index 31 is written with its key.
+fn at_31() {
+    keyed(b"envelope writer: public at L2 31: ", 200, 1, 20, 0, 0);
+    keyed(
+        b"envelope writer: public at L2 31 with its key: ",
+        200,
+        1,
+        20,
+        0,
+        20,
+    );
+    keyed(
+        b"envelope writer: public at L2 31, just room: ",
+        108,
+        1,
+        20,
+        0,
+        20,
+    );
+    keyed(
+        b"envelope writer: public at L2 31, a byte short: ",
+        107,
+        1,
+        20,
+        0,
+        20,
+    );
+    keyed(
+        b"envelope writer: public at L2 31, key length 0: ",
+        200,
+        1,
+        0,
+        0,
+        0,
+    );
+    keyed(
+        b"envelope writer: seed at L2 31, L1 key: ",
+        200,
+        0,
+        20,
+        64,
+        0,
+    );
+}
+
+// What stays refused there; the last one has no room either.
+fn refused_at_31() {
+    keyed(
+        b"envelope writer: public at L2 31, a key of 19: ",
+        200,
+        1,
+        20,
+        0,
+        19,
+    );
+    keyed(
+        b"envelope writer: public at L2 31, a key of 21: ",
+        200,
+        1,
+        20,
+        0,
+        21,
+    );
+    keyed(
+        b"envelope writer: public at L2 31, key length 0, a key: ",
+        200,
+        1,
+        0,
+        0,
+        1,
+    );
+    keyed(
+        b"envelope writer: public at L2 31, L1 key: ",
+        200,
+        1,
+        20,
+        64,
+        0,
+    );
+    keyed(
+        b"envelope writer: public at L2 31, both keys: ",
+        200,
+        1,
+        20,
+        64,
+        20,
+    );
+    keyed(
+        b"envelope writer: seed at L2 31, L2 key: ",
+        200,
+        0,
+        64,
+        0,
+        64,
+    );
+    keyed(
+        b"envelope writer: seed at L2 31, 11 before 13: ",
+        0,
+        0,
+        20,
+        0,
+        20,
+    );
+}
+
+// A seed envelope at (5, l1, 7) written into `room` bytes, whose KDF algorithm is the first n bytes of this letter and a zero, with
 // KDF parameters and an L1 key of so many zeros.
 fn write(
     name: &[u8],
@@ -68,17 +175,54 @@ fn write(
     kdf_parameters: usize,
     l1_key: usize,
 ) {
-    let kdf = [letter, 0];
+    put(
+        name,
+        room,
+        head_at(0, l1, 7, 0),
+        [letter, 0],
+        n,
+        kdf_parameters,
+        l1_key,
+        0,
+    );
+}
+
+// An envelope at (5, 3, 31) with these flags and this public key length, four texts of 2 bytes and keys of so many zeros.
+fn keyed(name: &[u8], room: usize, flags: u32, public_length: u32, l1_key: usize, l2_key: usize) {
+    put(
+        name,
+        room,
+        head_at(flags, 3, 31, public_length),
+        [0, 0],
+        2,
+        0,
+        l1_key,
+        l2_key,
+    );
+}
+
+// An envelope with the first n bytes of this KDF algorithm.
+fn put(
+    name: &[u8],
+    room: usize,
+    head: Head,
+    kdf: [u8; 2],
+    n: usize,
+    kdf_parameters: usize,
+    l1_key: usize,
+    l2_key: usize,
+) {
     let zeros = io::large_buffer();
     let mut out = [FILL; 200];
     print(written(
         Line::new().text(name),
         &mut out,
         room,
-        l1,
+        head,
         cases::first(&kdf, n),
         cases::first(&zeros, kdf_parameters),
         cases::first(&zeros, l1_key),
+        cases::first(&zeros, l2_key),
     ));
 }
 
@@ -86,13 +230,14 @@ fn written(
     line: Line,
     out: &mut [u8],
     room: usize,
-    l1: u32,
+    head: Head,
     kdf: &[u8],
     kdf_parameters: &[u8],
     l1_key: &[u8],
+    l2_key: &[u8],
 ) -> Line {
     if room <= out.len() {
-        let answer = write_into(&mut out[0..room], l1, kdf, kdf_parameters, l1_key);
+        let answer = write_into(&mut out[0..room], head, kdf, kdf_parameters, l1_key, l2_key);
         let told = words::written(line, answer);
         if let Written::Length(len) = answer {
             return kept(
@@ -108,17 +253,18 @@ fn written(
 
 fn write_into(
     out: &mut [u8],
-    l1: u32,
+    head: Head,
     kdf: &[u8],
     kdf_parameters: &[u8],
     l1_key: &[u8],
+    l2_key: &[u8],
 ) -> Written {
     let empty = [0; 2];
     let text = &empty[..];
     let none = cases::first(text, 0);
     envelope::write(
         out,
-        head_at(l1),
+        head,
         kdf,
         kdf_parameters,
         text,
@@ -126,7 +272,7 @@ fn write_into(
         text,
         text,
         l1_key,
-        none,
+        l2_key,
     )
 }
 
@@ -136,17 +282,17 @@ fn kept(line: Line, out: &[u8], len: usize) -> Line {
     cases::kept(line.text(b" "), &before, out, len)
 }
 
-fn head_at(l1: u32) -> Head {
+fn head_at(flags: u32, l1: u32, l2: u32, public_length: u32) -> Head {
     Head {
         version: 1,
-        flags: 0,
+        flags,
         at: Gkid {
             l0: L0(5),
             l1: L1(l1),
-            l2: L2(7),
+            l2: L2(l2),
         },
         root: RootId { high: 1, low: 2 },
         private_length: 0,
-        public_length: 0,
+        public_length,
     }
 }

@@ -39,6 +39,15 @@ fn wrong_mark(units: usize) -> Vec<u8> {
     make::with(envelope(units), 4, 0)
 }
 
+/// A public envelope at L2 index 31, with a public key of 128 bytes in place of the two seed keys.
+fn public_at_31(units: usize) -> Vec<u8> {
+    [(8, 1), (20, 31), (60, 128), (64, 0), (68, 128)]
+        .into_iter()
+        .fold(envelope(units), |envelope, (at, number)| {
+            make::with(envelope, at, number)
+        })
+}
+
 /// The most zeros that an EfsKey has for a SID, beside a certificate of one byte.
 const MOST_ZEROS: usize = 65_502;
 
@@ -142,6 +151,11 @@ fn operations<F>(meter: Meter<F>) -> Vec<Row<F>> {
             "envelope read",
             "368 bytes",
             envelope_read(meter, 0, &envelope(20)),
+        ),
+        row(
+            "envelope read",
+            "368 bytes, public at L2 index 31",
+            envelope_read(meter, 0, &public_at_31(20)),
         ),
         row(
             "envelope read",

@@ -1,6 +1,7 @@
-//! Properties of the built library: demand 3, round trips, the walk, a segment's blocks, the choice by the reach, the time rule.
+//! Properties of the built library: demand 3, round trips, the walk, a segment's blocks, public envelopes, the choice by the
+//! reach, the time rule.
 
-use differential::properties::{blocks, round_trips, serving, steps, waiting, walk};
+use differential::properties::{blocks, public, round_trips, serving, steps, waiting, walk};
 
 #[test]
 fn waiting_loses_nothing() {
@@ -50,6 +51,11 @@ fn list_walked() {
 #[test]
 fn segment_blocks_one_by_one() {
     blocks::BLOCKS.check();
+}
+
+#[test]
+fn public_envelopes_anywhere() {
+    public::ANYWHERE.check();
 }
 
 #[test]

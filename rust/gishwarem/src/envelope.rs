@@ -222,7 +222,7 @@ impl<'a> Envelope<'a> {
     /// are those of the bodies. The bytes behind it stay; a refusal changes no byte.
     ///
     /// ```
-    /// use gishwarem::{Bodies, Envelope, Gkid, Head, Refusal};
+    /// use gishwarem::{Bodies, Envelope, Form, Gkid, Head, Refusal};
     ///
     /// let empty_text = &[0, 0][..];
     /// let bodies = Bodies {
@@ -241,10 +241,15 @@ impl<'a> Envelope<'a> {
     /// let refused = Envelope::write(&mut out[..87], &Head::default(), &bodies);
     /// assert_eq!(refused, Err(Refusal::NoRoom));
     ///
-    /// // At L2 index 31 there is no L2 key.
-    /// let head = Head { at: Gkid { l0: 4, l1: 31, l2: 31 }, ..Head::default() };
-    /// let bodies = Bodies { l2_key: &[2; 64], ..bodies };
+    /// // At L2 index 31 a seed envelope has no L2 key; a public one may carry its key, of the
+    /// // public key length.
+    /// let head = Head { at: Gkid { l0: 4, l1: 31, l2: 31 }, public_length: 1, ..Head::default() };
+    /// let bodies = Bodies { l2_key: &[2], ..bodies };
     /// assert_eq!(Envelope::write(&mut out, &head, &bodies), Err(Refusal::KeyLength));
+    /// let public = Head { flags: 1, ..head };
+    /// assert_eq!(Envelope::write(&mut out, &public, &bodies), Ok(89));
+    /// assert_eq!(Envelope::read(&out)?.form, Form::Public);
+    /// # Ok::<(), Refusal>(())
     /// ```
     pub fn write(out: &mut [u8], head: &Head, bodies: &Bodies<'_>) -> Result<usize, Refusal> {
         written(calls::envelope_write(out, (*head).into(), bodies))

@@ -206,13 +206,15 @@ mod tests {
 
     #[test]
     fn public_ones_never_serve() {
-        let public = envelope(1, id(5, 3, 7), 0, 64);
         let both = envelope(0, id(5, 3, 7), 64, 64);
-        assert_eq!(choose(&ROOT, id(5, 3, 7), &public, &public), Err(23));
-        assert_eq!(
-            choose(&ROOT, id(5, 3, 7), &public, &both),
-            chosen(Which::Fetched, Key::L2, 152)
-        );
+        for l2 in [7, 31] {
+            let public = envelope(1, id(5, 3, l2), 0, 64);
+            assert_eq!(choose(&ROOT, id(5, 3, l2), &public, &public), Err(23));
+            assert_eq!(
+                choose(&ROOT, id(5, 3, 7), &public, &both),
+                chosen(Which::Fetched, Key::L2, 152)
+            );
+        }
     }
 
     #[test]
@@ -227,6 +229,7 @@ mod tests {
             (0, 31, 31, 64, 0),
             (0, 31, 30, 64, 64),
             (1, 3, 7, 0, 64),
+            (1, 3, 31, 0, 64),
         ] {
             let bytes = envelope(flags, id(5, l1, l2), l1_length, l2_length);
             let reach = reach::of_envelope(&bytes).unwrap();

@@ -1,4 +1,5 @@
-//! The Group Key Envelope (MS-GKDI 2.2.4; document 01, "Group Key Envelope").
+//! The Group Key Envelope (MS-GKDI 2.2.4; document 01, "Group Key Envelope";
+//! document 02, No. 4).
 
 use crate::time::Gkid;
 use crate::{put_u32, record_length, u32_at, Part, MAX_LENGTH};
@@ -184,14 +185,16 @@ pub(crate) fn check_keys(head: &Head, l1_length: usize, l2_length: usize) -> Res
         return Err(11);
     }
 
-    // The L2 key: 0 if L2 = 31; else 0, or 64 for a seed, or the public key
-    // length for a public envelope.
+    // The L2 key: 0, or 64 for a seed, or the public key length for a public
+    // envelope. At L2 = 31 it is absent, by document 02, No. 4 for seed
+    // envelopes only.
     let l2_full = if head.is_public() {
         u64::from(head.public_length)
     } else {
         SEED_LENGTH as u64
     };
-    if l2_length != 0 && (l2 == 31 || l2_length as u64 != l2_full) {
+    let l2_allowed = head.is_public() || l2 != 31;
+    if l2_length != 0 && !(l2_allowed && l2_length as u64 == l2_full) {
         return Err(11);
     }
     Ok(())
@@ -492,10 +495,23 @@ mod tests {
             (3, 7, 0, 0, 64, 11),
             (3, 7, u32::MAX, 0, 0, 0),
             (3, 7, 65_536 + 64, 0, 64, 11),
-            (3, 31, 100, 0, 0, 0),
-            (3, 31, 100, 0, 100, 11),
-            (3, 31, 100, 64, 0, 11),
             (0, 0, 100, 0, 100, 0),
+            // The house rule: at L2 = 31 as elsewhere.
+            (3, 31, 100, 0, 0, 0),
+            (3, 31, 100, 0, 100, 0),
+            (3, 31, 100, 0, 64, 11),
+            (3, 31, 100, 0, 99, 11),
+            (3, 31, 100, 0, 101, 11),
+            (3, 31, 100, 64, 0, 11),
+            (3, 31, 100, 64, 100, 11),
+            (3, 31, 64, 0, 64, 0),
+            (3, 31, 64, 64, 0, 11),
+            (3, 31, 0, 0, 0, 0),
+            (3, 31, 0, 0, 1, 11),
+            (3, 31, 0, 0, 64, 11),
+            (3, 31, 65_536 + 64, 0, 64, 11),
+            (0, 31, 100, 0, 100, 0),
+            (31, 31, 100, 0, 100, 0),
         ] {
             for flags in [1, 3, u32::MAX] {
                 let head = head(flags, l1, l2, public);
@@ -587,6 +603,10 @@ mod tests {
         assert_eq!(write(&mut out, &head(0, 3, 31, 0), &l2), Err(11));
         assert_eq!(write(&mut out, &head(1, 3, 7, 65), &l2), Err(11));
         assert_eq!(write(&mut out, &head(1, 3, 7, 64), &l2), Err(13));
+        // At L2 = 31 for seed envelopes only.
+        assert_eq!(write(&mut out, &head(0, 3, 31, 64), &l2), Err(11));
+        assert_eq!(write(&mut out, &head(1, 3, 31, 65), &l2), Err(11));
+        assert_eq!(write(&mut out, &head(1, 3, 31, 64), &l2), Err(13));
         assert_eq!(
             write(&mut out, &head(0, 3, 7, 0), &bodies(&[], &[])),
             Err(13)

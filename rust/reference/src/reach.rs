@@ -267,6 +267,7 @@ mod tests {
             (1, 3, 7, 0, 64, Form::Public, 0),
             (1, 3, 7, 0, 0, Form::Keyless, 0),
             (1, 3, 31, 0, 0, Form::Keyless, 0),
+            (1, 3, 31, 0, 64, Form::Public, 0),
         ] {
             let reach = of_envelope(&envelope(flags, id(l1, l2), l1_length, l2_length)).unwrap();
             assert_eq!((reach.form, reach.total), (form, total));

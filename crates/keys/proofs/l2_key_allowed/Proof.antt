@@ -7,8 +7,8 @@ use Rattle.keys.proofs.l2_key_allowed.Tie as tie
 pub l2-key-allowed-spec : {M : Type 1} → statement M
 unfolding l2KeyAllowed
 l2-key-allowed-spec = tie.close (tie.spec
-    (λ c. search eq-eqb)
-    (λ c. search (eq-eqb, ne-eqb))
-    (λ c. search (ne-eqb, c .before .if2 .taken))
-    (λ c. search (eq-eqb, ne-eqb))
-    (λ c. search (ne-eqb, c .before .if2 .left)))
+    (λ c. search (eq-eqb, c .before .if1 .taken))
+    (λ c. search (ne-eqb, c .before .if1 .taken))
+    (λ c. search (eq-eqb, c .before .before .if1 .left))
+    (λ c. search (eq-eqb, ne-eqb, c .before .before .before .if1 .left))
+    (λ c. search (ne-eqb, c .before .before .before .if1 .left)))

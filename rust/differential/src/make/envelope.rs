@@ -206,7 +206,7 @@ impl Envelope {
     /// Moves one value of the head, one text or one key.
     fn move_one(&mut self, rng: &mut Rng) {
         let head = &mut self.head;
-        match rng.below(9) {
+        match rng.below(10) {
             0 => head.at = identifier::moved(rng, head.at),
             1 => head.at.l1 = rng.pick(&[0, 1, 31, 32]),
             2 => head.at.l2 = rng.pick(&[0, 30, 31, 32]),
@@ -216,6 +216,13 @@ impl Envelope {
                 let key = rng.pick(&[L1_KEY, L2_KEY]);
                 let len = rng.pick(&[0, 1, SEED - 1, SEED, SEED, SEED + 1, 2 * SEED]);
                 self.bodies[key] = rng.bytes(len);
+            }
+            7 => {
+                // One byte more or less than its key has.
+                let key = rng.pick(&[L1_KEY, L2_KEY]);
+                let len = self.bodies[key].len();
+                let near = rng.pick(&[len + 1, len.saturating_sub(1)]);
+                self.bodies[key] = rng.bytes(near);
             }
             _ => {
                 let body = rng.pick(&TEXTS);
@@ -249,7 +256,7 @@ fn move_text(rng: &mut Rng, text: &mut Vec<u8>) {
 fn key_lengths(rng: &mut Rng, head: &mut Head) -> (usize, usize) {
     let Identifier { l1, l2, .. } = head.at;
     if head.flags & 1 == 1 {
-        if l2 == 31 || rng.chance(4) {
+        if rng.chance(4) {
             return (0, 0);
         }
         let length = rng.pick(&[0, 1, 63, 64, 65, 100]);

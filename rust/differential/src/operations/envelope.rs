@@ -1,5 +1,7 @@
 //! Reading and writing a Group Key Envelope.
 
+use gishwarem::raw::codes;
+
 use super::Asked;
 use crate::hex::Hex;
 use crate::lent::Output;
@@ -10,8 +12,10 @@ use crate::subject::Subject;
 use crate::tally::Tally;
 use crate::{ask, expected};
 
-/// The words for an envelope's form, by its code.
-const FORMS: [&str; 5] = ["NOKEY", "L1ONLY", "L2ONLY", "BOTH", "PUBLIC"];
+/// The words for an envelope's form, by its code; and a public envelope with its key at L2 index 31.
+const FORMS: [&str; 6] = ["NOKEY", "L1ONLY", "L2ONLY", "BOTH", "PUBLIC", PUBLIC_AT_31];
+
+const PUBLIC_AT_31: &str = "PUBLIC at L2 31";
 
 /// The reader.
 pub const READ: Subject = Subject {
@@ -26,7 +30,7 @@ pub const WRITE: Subject = Subject {
     name: "envelope write",
     run: write,
     refusals: &[1, 5, 10, 11, 13],
-    events: &[],
+    events: &[PUBLIC_AT_31],
 };
 
 fn read(rng: &mut Rng, tally: &mut Tally) {
@@ -36,6 +40,9 @@ fn read(rng: &mut Rng, tally: &mut Tally) {
     Asked::new(kind, &Hex(&bytes)).compare(tally, &answer, &expected::envelope_read(&bytes));
     if answer.refusal == 0 {
         tally.event(FORMS[answer.form as usize]);
+        if answer.form == codes::FORM_PUBLIC && answer.head.at.l2 == 31 {
+            tally.event(PUBLIC_AT_31);
+        }
     }
 }
 
@@ -49,4 +56,8 @@ fn write(rng: &mut Rng, tally: &mut Tally) {
     Asked::new(kind, &input).compare_written(tally, &out, &answer, |out| {
         expected::envelope_write(out, &envelope.head, envelope.lent())
     });
+    let [.., l2_key] = envelope.lent();
+    if answer.refusal == 0 && envelope.head.at.l2 == 31 && !l2_key.is_empty() {
+        tally.event(PUBLIC_AT_31);
+    }
 }

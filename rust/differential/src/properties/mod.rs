@@ -2,6 +2,7 @@
 //! asked.
 
 pub mod blocks;
+pub mod public;
 pub mod round_trips;
 pub mod serving;
 pub mod steps;
@@ -13,7 +14,7 @@ use gishwarem::raw::{Identifier, Part};
 use crate::subject::Subject;
 
 /// Every property.
-pub const ALL: [Subject; 12] = [
+pub const ALL: [Subject; 13] = [
     waiting::WAITING,
     round_trips::ENTRY,
     round_trips::EFSKEY_WRITTEN,
@@ -24,6 +25,7 @@ pub const ALL: [Subject; 12] = [
     round_trips::ENVELOPE_READ,
     walk::WALK,
     blocks::BLOCKS,
+    public::ANYWHERE,
     serving::SERVING,
     steps::STEPS,
 ];
