@@ -45,7 +45,8 @@ pub fn measure(mut sides: Sides) -> Found {
     }
 }
 
-/// How many calls fill a round: a multiple of `TURN`.
+/// How many calls fill a round: a multiple of `TURN`, and one `TURN` at least, also where the calls that were timed for it were
+/// interrupted for longer than a round.
 fn calls_in_a_round(side: &mut dyn FnMut(u32)) -> u32 {
     let mut calls = TURN;
     loop {
@@ -54,7 +55,7 @@ fn calls_in_a_round(side: &mut dyn FnMut(u32)) -> u32 {
         let taken = start.elapsed().as_nanos();
         if taken >= ROUND_NANOSECONDS / 4 {
             let calls = (u128::from(calls) * ROUND_NANOSECONDS / taken) as u32;
-            return calls.next_multiple_of(TURN);
+            return calls.max(1).next_multiple_of(TURN);
         }
         calls *= 4;
     }
