@@ -181,38 +181,11 @@ fn keyless() {
 // Document 02, No. 4: a public envelope that carries its key at L2 index 31 serves nothing.
 fn public_at_31() {
     let at_31 = public(3, 31);
-    choice(
-        b"choice: public at L2 31, its own: ",
-        at_31,
-        none(),
-        5,
-        3,
-        31,
-    );
-    choice(
-        b"choice: public at L2 31, the first of all: ",
-        at_31,
-        none(),
-        5,
-        0,
-        0,
-    );
-    choice(
-        b"choice: both are public at L2 31: ",
-        at_31,
-        at_31,
-        5,
-        3,
-        31,
-    );
-    choice(
-        b"choice: cached is public at L2 31: ",
-        at_31,
-        alone(3, 31, 64, 0),
-        5,
-        3,
-        31,
-    );
+    let seed = alone(3, 31, 64, 0);
+    choice(b"choice: public at L2 31: ", at_31, none(), 5, 3, 31);
+    choice(b"choice: public, below L2 31: ", at_31, none(), 5, 3, 0);
+    choice(b"choice: both public at L2 31: ", at_31, at_31, 5, 3, 31);
+    choice(b"choice: cached public at L2 31: ", at_31, seed, 5, 3, 31);
 }
 
 // A seed envelope with keys of these lengths.

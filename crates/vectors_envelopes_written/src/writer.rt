@@ -61,107 +61,23 @@ fn orders() {
 
 // Document 02, No. 4: a public envelope at L2 index 31 is written with its key.
 fn at_31() {
-    keyed(b"envelope writer: public at L2 31: ", 200, 1, 20, 0, 0);
-    keyed(
-        b"envelope writer: public at L2 31 with its key: ",
-        200,
-        1,
-        20,
-        0,
-        20,
-    );
-    keyed(
-        b"envelope writer: public at L2 31, just room: ",
-        108,
-        1,
-        20,
-        0,
-        20,
-    );
-    keyed(
-        b"envelope writer: public at L2 31, a byte short: ",
-        107,
-        1,
-        20,
-        0,
-        20,
-    );
-    keyed(
-        b"envelope writer: public at L2 31, key length 0: ",
-        200,
-        1,
-        0,
-        0,
-        0,
-    );
-    keyed(
-        b"envelope writer: seed at L2 31, L1 key: ",
-        200,
-        0,
-        20,
-        64,
-        0,
-    );
+    keyed(b"writer at L2 31: public: ", 200, 1, 20, 0, 0);
+    keyed(b"writer at L2 31: public, its key: ", 200, 1, 20, 0, 20);
+    keyed(b"writer at L2 31: just room: ", 108, 1, 20, 0, 20);
+    keyed(b"writer at L2 31: a byte short: ", 107, 1, 20, 0, 20);
+    keyed(b"writer at L2 31: key length 0: ", 200, 1, 0, 0, 0);
+    keyed(b"writer at L2 31: seed, L1 key: ", 200, 0, 20, 64, 0);
 }
 
 // What stays refused there; the last one has no room either.
 fn refused_at_31() {
-    keyed(
-        b"envelope writer: public at L2 31, a key of 19: ",
-        200,
-        1,
-        20,
-        0,
-        19,
-    );
-    keyed(
-        b"envelope writer: public at L2 31, a key of 21: ",
-        200,
-        1,
-        20,
-        0,
-        21,
-    );
-    keyed(
-        b"envelope writer: public at L2 31, key length 0, a key: ",
-        200,
-        1,
-        0,
-        0,
-        1,
-    );
-    keyed(
-        b"envelope writer: public at L2 31, L1 key: ",
-        200,
-        1,
-        20,
-        64,
-        0,
-    );
-    keyed(
-        b"envelope writer: public at L2 31, both keys: ",
-        200,
-        1,
-        20,
-        64,
-        20,
-    );
-    keyed(
-        b"envelope writer: seed at L2 31, L2 key: ",
-        200,
-        0,
-        64,
-        0,
-        64,
-    );
-    keyed(
-        b"envelope writer: seed at L2 31, 11 before 13: ",
-        0,
-        0,
-        20,
-        0,
-        20,
-    );
+    keyed(b"writer at L2 31: a key of 19: ", 200, 1, 20, 0, 19);
+    keyed(b"writer at L2 31: a key of 21: ", 200, 1, 20, 0, 21);
+    keyed(b"writer at L2 31: length 0, a key: ", 200, 1, 0, 0, 1);
+    keyed(b"writer at L2 31: public, L1 key: ", 200, 1, 20, 64, 0);
+    keyed(b"writer at L2 31: public, both keys: ", 200, 1, 20, 64, 20);
+    keyed(b"writer at L2 31: seed, L2 key: ", 200, 0, 64, 0, 64);
+    keyed(b"writer at L2 31: 11 before 13: ", 0, 0, 20, 0, 20);
 }
 
 // A seed envelope at (5, l1, 7) written into `room` bytes, whose KDF algorithm is the first n bytes of this letter and a zero, with
