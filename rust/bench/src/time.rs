@@ -45,8 +45,8 @@ pub fn measure(mut sides: Sides) -> Found {
     }
 }
 
-/// How many calls fill a round: a multiple of `TURN`, and one `TURN` at least, also where the calls that were timed for it were
-/// interrupted for longer than a round.
+/// How many calls fill a round: a multiple of `TURN`, and one `TURN` at least, also where what is timed for it is interrupted
+/// for many rounds' time.
 fn calls_in_a_round(side: &mut dyn FnMut(u32)) -> u32 {
     let mut calls = TURN;
     loop {
