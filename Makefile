@@ -42,7 +42,7 @@ vectors:
 
 # The example host on its kept files.
 host: build/host
-	@cd examples/data && ../../build/host envelope table cached fetched
+	@cd examples/data && ../../build/host envelope descriptor table cached fetched
 
 build/host: examples/host.c include/gishwarem.h build/libgishwarem.a
 	@$(CC) $(CFLAGS) -Iinclude examples/host.c build/libgishwarem.a -o $@

@@ -1,10 +1,10 @@
-/* host: a small program that asks Gishwarem three things and prints the answers.
+/* host: a small program that asks Gishwarem four things and prints the answers.
  *
  *     cc -std=c99 -I include examples/host.c build/libgishwarem.a -o host
- *     ./host examples/data/envelope examples/data/table examples/data/cached examples/data/fetched
+ *     cd examples/data && ../../host envelope descriptor table cached fetched
  *
- * It shows an envelope, asks for group keys, and chooses between two envelopes. What it prints for the files kept in
- * examples/data is in examples/host.stdout. */
+ * It shows an envelope, checks a security descriptor, asks for group keys with it, and chooses between two envelopes. What it
+ * prints for the files kept in examples/data is in examples/host.stdout. */
 #include <inttypes.h>
 #include <stdio.h>
 #include <stdlib.h>
@@ -107,12 +107,26 @@ static gw_envelope_answer show_envelope(const bytes *envelope)
     return answer;
 }
 
-/* Asks for a group key by its indices, or for the latest by -1 in all three, under no root key in particular. The verdict
- * and the rights come from the host's own access check: here they are yes, and seed keys. */
-static gw_decision_answer ask(const bytes *table, int32_t l0, int32_t l1, int32_t l2)
+/* What is found of a security descriptor, for a log: sound, or the part that fails first. */
+static const char *descriptor_word(uint32_t found)
+{
+    switch (found) {
+    case GW_DESCRIPTOR_SOUND: return "sound";
+    case GW_DESCRIPTOR_HEAD: return "its head fails";
+    case GW_DESCRIPTOR_OWNER: return "its owner fails";
+    case GW_DESCRIPTOR_GROUP: return "its group fails";
+    case GW_DESCRIPTOR_SACL: return "its SACL fails";
+    default: return "its DACL fails"; /* GW_DESCRIPTOR_DACL */
+    }
+}
+
+/* Asks for a group key by its indices, or for the latest by -1 in all three, under no root key in particular. The rights come
+ * from the host's own access check: here they are those to seed keys. */
+static gw_decision_answer ask(const bytes *descriptor, const bytes *table, int32_t l0, int32_t l1, int32_t l2)
 {
     gw_request request = {GW_ROOT_NONE, l0, l1, l2, {{0}}};
-    gw_decision_answer answer = gw_decide(GW_ACCESS_ALLOWED, GW_RIGHTS_SEED, request, CLOCK, table->data, table->len);
+    gw_decision_answer answer = gw_decide(descriptor->data, descriptor->len, GW_RIGHTS_SEED, request, CLOCK, table->data,
+                                          table->len);
 
     printf("asked for (%" PRId32 ",%" PRId32 ",%" PRId32 "): ", l0, l1, l2);
     if (answer.refusal != GW_ACCEPTED) {
@@ -147,7 +161,7 @@ static void choose(gw_root root, gw_identifier wanted, const bytes *cached, cons
 
 int main(int argc, char **argv)
 {
-    static bytes envelope, table, cached, fetched; /* not on the stack: they are large */
+    static bytes envelope, descriptor, table, cached, fetched; /* not on the stack: they are large */
     gw_envelope_answer shown;
     gw_decision_answer latest;
 
@@ -155,19 +169,21 @@ int main(int argc, char **argv)
         fprintf(stderr, "host: the library is of another version than its header\n");
         return 1;
     }
-    if (argc != 5) {
-        fprintf(stderr, "usage: host ENVELOPE TABLE CACHED FETCHED\n");
+    if (argc != 6) {
+        fprintf(stderr, "usage: host ENVELOPE DESCRIPTOR TABLE CACHED FETCHED\n");
         return 1;
     }
     read_file(argv[1], &envelope);
-    read_file(argv[2], &table);
-    read_file(argv[3], &cached);
-    read_file(argv[4], &fetched);
+    read_file(argv[2], &descriptor);
+    read_file(argv[3], &table);
+    read_file(argv[4], &cached);
+    read_file(argv[5], &fetched);
 
     shown = show_envelope(&envelope);
-    latest = ask(&table, -1, -1, -1);
-    ask(&table, 5, 3, 7);
-    ask(&table, 5, 3, 8);
+    printf("descriptor: %s\n", descriptor_word(gw_descriptor_check(descriptor.data, descriptor.len)));
+    latest = ask(&descriptor, &table, -1, -1, -1);
+    ask(&descriptor, &table, 5, 3, 7);
+    ask(&descriptor, &table, 5, 3, 8);
     if (shown.refusal == GW_ACCEPTED && latest.refusal == GW_ACCEPTED)
         choose(shown.head.root, latest.at, &cached, &fetched);
     return 0;

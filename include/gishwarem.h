@@ -1,9 +1,10 @@
-/* Gishwarem: key records and data segment headers of encrypted files, group key envelopes and the GetKey decision.
+/* Gishwarem: key records and data segment headers of encrypted files, group key envelopes, security descriptors and the
+ * GetKey decision.
  *
  * Every function answers by value, the refusal's number first: 0 is accepted. On a refusal every other field is zero, but for
  * the index of a list's entry and the place that a step was asked at. A part is a place in the caller's own bytes; those of a
- * step count from the entry's first byte, which stands at `at` in the list. Nothing is kept between calls, nothing is allocated,
- * and any bytes and numbers get an answer.
+ * step count from the entry's first byte, which stands at `at` in the list. gw_descriptor_check answers a code alone, which is
+ * no refusal's number. Nothing is kept between calls, nothing is allocated, and any bytes and numbers get an answer.
  *
  * What the caller owes: a pointer and its length name bytes that may be read for the length of the call (written, for `out`),
  * no other thread changes them meanwhile, and `out` shares no byte with what is handed in beside it. `sizes` and `blocks` name
@@ -24,8 +25,10 @@ extern "C" {
 /* The version of this header. It is raised where an answer or a signature changes; the built library has its own, which
  * gw_version answers: a host may compare them once.
  * 2: zeros in place of a SID, which were refused with 12, are accepted, with the kind GW_SID_NO_HINT.
- * 3: a public envelope at L2 index 31 with a key of its public key length, which was refused with 11, is accepted and written. */
-#define GW_VERSION 3u
+ * 3: a public envelope at L2 index 31 with a key of its public key length, which was refused with 11, is accepted and written.
+ * 4: gw_decide takes the security descriptor's bytes, a pointer and a length, in place of the verdict on it. What it was stands
+ * under the name gw_decide_by_verdict. */
+#define GW_VERSION 4u
 
 /* Refusal numbers. */
 #define GW_ACCEPTED 0u            /* not refused */
@@ -44,7 +47,7 @@ extern "C" {
 #define GW_NO_ROOM 13u            /* output buffer shorter than the record */
 #define GW_INDEX_OUT_OF_RANGE 14u /* requested index out of range */
 #define GW_MIXED_INDICES 15u      /* requested indices mix -1 with others */
-#define GW_VERDICT_NO 16u         /* descriptor verdict is no */
+#define GW_VERDICT_NO 16u         /* security descriptor not sound, or the verdict on it no */
 #define GW_LATER_THAN_NOW 17u     /* request later than now */
 #define GW_RIGHTS_TOO_LOW 18u     /* rights too low */
 #define GW_NO_ROOT_KEY 19u        /* no suitable root key */
@@ -83,6 +86,14 @@ extern "C" {
 /* The verdict on a security descriptor. */
 #define GW_ACCESS_DENIED 0u  /* no */
 #define GW_ACCESS_ALLOWED 1u /* yes */
+
+/* What the check of a security descriptor finds. */
+#define GW_DESCRIPTOR_SOUND 0u /* no part fails */
+#define GW_DESCRIPTOR_HEAD 1u  /* its head fails first: length, revision, or control bit 0x8000 */
+#define GW_DESCRIPTOR_OWNER 2u /* its owner */
+#define GW_DESCRIPTOR_GROUP 3u /* its group */
+#define GW_DESCRIPTOR_SACL 4u  /* its system list */
+#define GW_DESCRIPTOR_DACL 5u  /* its discretionary list */
 
 /* The root key of a request. */
 #define GW_ROOT_NONE 0u  /* none is named */
@@ -329,10 +340,18 @@ gw_start_answer gw_identifier_start(gw_identifier at);
 /* The next older identifier of the same L0 group; (L0, 0, 0) has none, which is no refusal. Refused 5. */
 gw_identifier_answer gw_identifier_older(gw_identifier at);
 
-/* The GetKey decision: GW_ACCESS_.., GW_RIGHTS_.., a request, the clock as a FILETIME, and the root table: rows of 32 bytes,
- * each a root key identifier (16), its use-start time (8) and its create time (8), times with the most significant byte first. */
-gw_decision_answer gw_decide(uint32_t verdict, uint32_t rights, gw_request request, uint64_t clock, const uint8_t *table,
-                             size_t len);
+/* Whether bytes are a sound self-relative security descriptor: GW_DESCRIPTOR_.., for a log. gw_decide asks the same. */
+uint32_t gw_descriptor_check(const uint8_t *descriptor, size_t len);
+
+/* The GetKey decision: the security descriptor, refused 16 where gw_descriptor_check does not find it sound; GW_RIGHTS_.., a
+ * request, the clock as a FILETIME, and the root table: rows of 32 bytes, each a root key identifier (16), its use-start time (8)
+ * and its create time (8), times with the most significant byte first. */
+gw_decision_answer gw_decide(const uint8_t *descriptor, size_t descriptor_len, uint32_t rights, gw_request request,
+                             uint64_t clock, const uint8_t *table, size_t table_len);
+
+/* The same with GW_ACCESS_.. in place of the descriptor: what a record of past requests has of it. */
+gw_decision_answer gw_decide_by_verdict(uint32_t verdict, uint32_t rights, gw_request request, uint64_t clock,
+                                        const uint8_t *table, size_t len);
 
 /* Which of two envelopes serves an identifier under a root key: the cached one if that serves, else the fetched one, else 23. */
 gw_choice_answer gw_choose(gw_root root, gw_identifier wanted, const uint8_t *cached, size_t cached_len,
@@ -358,7 +377,7 @@ static inline const char *gw_refusal_text(uint32_t number)
     case GW_NO_ROOM: return "output buffer shorter than the record";
     case GW_INDEX_OUT_OF_RANGE: return "requested index out of range";
     case GW_MIXED_INDICES: return "requested indices mix -1 with others";
-    case GW_VERDICT_NO: return "descriptor verdict is no";
+    case GW_VERDICT_NO: return "security descriptor not sound, or the verdict on it no";
     case GW_LATER_THAN_NOW: return "request later than now";
     case GW_RIGHTS_TOO_LOW: return "rights too low";
     case GW_NO_ROOT_KEY: return "no suitable root key";

@@ -1,7 +1,6 @@
-// What the programs that run cases share: records put together in a lent buffer, its first bytes and the rest, and the words for
-// what was compared.
+// What the programs that run cases share: records put together in a lent buffer, its first bytes, and the words for what was
+// compared.
 ghost use mathlib.Core.Path.{_≡_};
-ghost use lib.ListN.{drop};
 ghost use Rattle.wire.specs.Parts.{partOf, le32Bytes};
 ghost use Rattle.line.specs.Text.{textOf, behind};
 ghost use Rattle.cases.specs.Building.{putAt, entryPut, envelopePut};
@@ -20,16 +19,6 @@ pub fn first(s: &[u8], len: usize) -> &[u8]
     ensures { λ r. ⌜ now r ≡ partOf (now (s .entry)) 0 len ⌝ }
 {
     wire::part(s, Span { at: 0, len })
-}
-
-// The bytes from `at` on.
-fn rest(s: &[u8], at: usize) -> &[u8]
-    ensures { λ r. ⌜ now r ≡ drop at (now (s .entry)) ⌝ }
-{
-    if at <= s.len() {
-        return &s[at..];
-    }
-    &s[0..0]
 }
 
 // Bytes put at an offset, where they fit.
@@ -83,7 +72,7 @@ pub fn compared(line: Line, a: &[u8], b: &[u8]) -> Line
 pub fn kept(line: Line, before: &[u8], out: &[u8], len: usize) -> Line
     ensures { λ r. ⌜ textOf r ≡ behind (textOf line) (keptWord (now (before .entry)) (now (out .entry)) len) ⌝ }
 {
-    if check::same(rest(before, len), rest(out, len)) {
+    if check::same(wire::rest(before, len), wire::rest(out, len)) {
         line.text(b"KEPT")
     } else {
         line.text(b"CHANGED")

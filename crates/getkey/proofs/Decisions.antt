@@ -23,7 +23,7 @@ use Rattle.roottable.specs.declared.Found.{Found}
 use Rattle.roottable.specs.declared.Found.the-variants as found
 use Rattle.roottable.specs.Rows.{tableWrong}
 use Rattle.roottable.specs.Selection.{chosenRow}
-use Rattle.getkey.specs.Deciding.{rightsTooLow, checks, withRow, granting, decision, Starts, answerNumber}
+use Rattle.getkey.specs.Deciding.{rightsTooLow, checks, withRow, granting, decisionByVerdict, Starts, answerNumber}
 use Rattle.getkey.specs.Waiting.{Accepted}
 use Rattle.request.proofs.Requests.{askedOf, narrowed-asks, Asks, latest, named, asks}
 
@@ -54,8 +54,8 @@ begins q t h p = rw (narrowed-asks q (p .ranged) (p .unmixed)) (of (asks q (p .r
 
 -- A refusal of the checks before 20 is the decision's.
 pub refused-decided : (verdict : Bool) (rights : Rights) (q : Request) (t : FileTime) (table : List ℕ) {r : Refusal}
-    → firstOf (take 5 (checks verdict rights q (gkidAt t) (length table))) ≡ outcome.Refused r → decision verdict rights q t table ≡ Refused r
-unfolding decision checks unlessRefused
+    → firstOf (take 5 (checks verdict rights q (gkidAt t) (length table))) ≡ outcome.Refused r → decisionByVerdict verdict rights q t table ≡ Refused r
+unfolding decisionByVerdict checks unlessRefused
 refused-decided verdict rights q t table e = rw (first-append (take 5 (checks verdict rights q (gkidAt t) (length table))) ((tableWrong (length table) ⇒ TableLength) ∷ []), e)
 
 -- of a wrong table the search for a row answers 20, as the last check does
@@ -67,23 +67,23 @@ table-told false f root asked at form = refl
 
 -- A request that passed is granted what it asks for, if a row is found.
 pub passed-granting : (verdict : Bool) (rights : Rights) (q : Request) (t : FileTime) (table : List ℕ) → Passed verdict rights q (gkidAt t)
-    → decision verdict rights q t table ≡ granting rights (q .root) (narrowedOf q) (gkidAt t) table
-unfolding decision checks firstOf granting chosenRow
+    → decisionByVerdict verdict rights q t table ≡ granting rights (q .root) (narrowedOf q) (gkidAt t) table
+unfolding decisionByVerdict checks firstOf granting chosenRow
 passed-granting verdict rights q t table p =
     rw (p .verdict-yes, p .ranged, p .unmixed, p .not-later, p .allowed, narrowed-asks q (p .ranged) (p .unmixed)) (table-told (tableWrong (length table)) _ (q .root) (askedOf q) _ _)
 
 pub record Decided (verdict : Bool) (rights : Rights) (q : Request) (t : FileTime) (table : List ℕ) : Type 0 where
   pub checked : Passed verdict rights q (gkidAt t)
-  pub is : decision verdict rights q t table ≡ granting rights (q .root) (narrowing.Asks (askedOf q)) (gkidAt t) table
+  pub is : decisionByVerdict verdict rights q t table ≡ granting rights (q .root) (narrowing.Asks (askedOf q)) (gkidAt t) table
 
 pub passed-decided : (verdict : Bool) (rights : Rights) (q : Request) (t : FileTime) (table : List ℕ) → Passed verdict rights q (gkidAt t)
     → Decided verdict rights q t table
 passed-decided verdict rights q t table p =
     record { checked = p; is = rw (passed-granting verdict rights q t table p, narrowed-asks q (p .ranged) (p .unmixed)) }
 
-pub accepted-decided : (verdict : Bool) (rights : Rights) (q : Request) (t : FileTime) (table : List ℕ) → Accepted (decision verdict rights q t table)
+pub accepted-decided : (verdict : Bool) (rights : Rights) (q : Request) (t : FileTime) (table : List ℕ) → Accepted (decisionByVerdict verdict rights q t table)
     → Decided verdict rights q t table
-unfolding decision checks answerNumber
+unfolding decisionByVerdict checks answerNumber
 accepted-decided verdict rights q t table e =
     let all = unless-zero answerNumber Refused (λ r. refl) _ _ e .0 in
     passed-decided verdict rights q t table (passed verdict rights q (gkidAt t) (length table) (append-accepted (take 5 (checks verdict rights q (gkidAt t) (length table))) _ all .0))

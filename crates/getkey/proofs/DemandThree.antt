@@ -1,5 +1,5 @@
--- Demand 3, waiting loses nothing, by one theorem. One descriptor verdict, one request and one root table are put to the decision twice, the
--- second time with a clock reading no lower and with rights no lower. Nothing else is assumed.
+-- Demand 3, waiting loses nothing, by one theorem. One descriptor, or one verdict on it, one request and one root table are put to the decision
+-- twice, the second time with a clock reading no lower and with rights no lower. Nothing else is assumed.
 use Rattle.lemmas.proofs.Basics.{ℕ, _≤_, arith, Bool, true, false, true≢false, not, _&&_, List, _≡_, refl, sym, _∙_, not-true}
 use Rattle.refusal.specs.declared.Refusal.the-variants.{NoRootKey}
 use Rattle.refusal.specs.Number.{outcomeNumber}
@@ -11,6 +11,7 @@ use Rattle.gkid.specs.Identifier.{later}
 use Rattle.gkid.specs.Conversion.{gkidAt}
 use Rattle.gkid.proofs.Order.{later-transitive}
 use Rattle.gkid.proofs.Times.{reading-in-group, reading-monotone}
+use Rattle.descriptor.specs.Checking.{isSound}
 use Rattle.keys.specs.declared.Form.{Form}
 use Rattle.keys.specs.Forms.{seedForm}
 use Rattle.reach.specs.Reached.{ofGroup}
@@ -27,8 +28,8 @@ use Rattle.request.specs.declared.Asked.the-variants.{Latest, Named}
 use Rattle.roottable.specs.declared.Found.{Found}
 use Rattle.roottable.specs.declared.Found.the-variants as found
 use Rattle.request.specs.Indices.{laterThanNow, names, namedOf}
-use Rattle.getkey.specs.Deciding.{rightsTooLow, grantedAt, formFor, withoutRow, withRow, granting, decision, answerNumber, answerAt, answerForm, answerRow, answerCreates}
-use Rattle.getkey.specs.Waiting.{height, NoLower, Asking, Accepted, NoWorse, reachedBy, ReachesUpTo, answerTo, LosesNothing}
+use Rattle.getkey.specs.Deciding.{rightsTooLow, grantedAt, formFor, withoutRow, withRow, granting, decision, decisionByVerdict, answerNumber, answerAt, answerForm, answerRow, answerCreates}
+use Rattle.getkey.specs.Waiting.{height, NoLower, Asking, Accepted, NoWorse, reachedBy, ReachesUpTo, byDescriptor, byVerdict, LosesNothing}
 use Rattle.request.proofs.Requests.{askedOf, Asks, latest, named, asks}
 use Rattle.getkey.proofs.Decisions.{passed-decided, accepted-decided}
 use Rattle.getkey.proofs.Granted.{Group, granted-group, granted-later}
@@ -87,8 +88,8 @@ module _ (verdict : Bool) (q : Request) (table : List ℕ) where
         rw e (granted-later (q .root) (namedOf q) (gkidAt t) (gkidAt t′) g (reading-in-group t) (reading-in-group t′) up-to clock),
       )
 
-  asked-again : (t t′ : FileTime) (r r′ : Rights) → t .0 ≤ t′ .0 → NoLower r r′ → Accepted (decision verdict r q t table)
-      → NoWorse (decision verdict r q t table) (decision verdict r′ q t′ table)
+  asked-again : (t t′ : FileTime) (r r′ : Rights) → t .0 ≤ t′ .0 → NoLower r r′ → Accepted (decisionByVerdict verdict r q t table)
+      → NoWorse (decisionByVerdict verdict r q t table) (decisionByVerdict verdict r′ q t′ table)
   unfolding granting at-reading
   asked-again t t′ r r′ h higher e =
       let first = accepted-decided verdict r q t table e in
@@ -98,8 +99,8 @@ module _ (verdict : Bool) (q : Request) (table : List ℕ) where
       rw (first .is, second .is) (with-row _ (q .root) (askedOf q) (at-reading t) (at-reading t′) _ _ (w .1) (rw (first .is) at e))
 
   -- an accepted answer to a request that names an identifier: of its L0 group, not before it, and in the seed form
-  named-answer : (r : Rights) (t : FileTime) → names q ≡ true → Accepted (decision verdict r q t table)
-      → Group (namedOf q) (answerAt (decision verdict r q t table)) × (answerForm (decision verdict r q t table) ≡ seedForm (answerAt (decision verdict r q t table)))
+  named-answer : (r : Rights) (t : FileTime) → names q ≡ true → Accepted (decisionByVerdict verdict r q t table)
+      → Group (namedOf q) (answerAt (decisionByVerdict verdict r q t table)) × (answerForm (decisionByVerdict verdict r q t table) ≡ seedForm (answerAt (decisionByVerdict verdict r q t table)))
   unfolding granting
   named-answer r t one e =
       let d = accepted-decided verdict r q t table e in
@@ -114,13 +115,13 @@ module _ (verdict : Bool) (q : Request) (table : List ℕ) where
       of (latest none l) not-later = absurd (true≢false (sym one ∙ none))
       of (named _ g l) not-later = granted-group (q .root) (namedOf q) (gkidAt t) g (reading-in-group t) (sym (l (gkidAt t)) ∙ not-later)
 
-  reaches-up-to : (a : Asking) → names q ≡ true → Accepted (answerTo verdict q table a) → ReachesUpTo (namedOf q) (answerTo verdict q table a)
+  reaches-up-to : (a : Asking) → names q ≡ true → Accepted (byVerdict verdict q table a) → ReachesUpTo (namedOf q) (byVerdict verdict q table a)
   unfolding reachedBy reachNumber outcomeNumber ofGroup
   reaches-up-to a one e =
       let n = named-answer (a .rights) (a .clock) one e in
-      let at = answerAt (answerTo verdict q table a) in
+      let at = answerAt (byVerdict verdict q table a) in
       let g = n .0 .within in
-      let reached : (i : Gkid) → reachedBy (answerTo verdict q table a) i ≡ ofGroup (namedOf q) i && not (later i at) = λ i. rw (n .1, ← n .0 .same) (seed-bits at i g) in
+      let reached : (i : Gkid) → reachedBy (byVerdict verdict q table a) i ≡ ofGroup (namedOf q) i && not (later i at) = λ i. rw (n .1, ← n .0 .same) (seed-bits at i g) in
       record {
         group = n .0 .same;
         accepted = rw (n .1, seed-accepted at g);
@@ -129,9 +130,9 @@ module _ (verdict : Bool) (q : Request) (table : List ℕ) where
         itself = reached (namedOf q) ∙ rw (is-group (namedOf q) (namedOf q) refl (n .0 .own), n .0 .after);
       }
 
-  -- Demand 3, for any two askings, the second with no lower clock and no lower rights.
-  pub waiting-loses-nothing : (first second : Asking) → first .clock .0 ≤ second .clock .0 → NoLower (first .rights) (second .rights) → LosesNothing verdict q table first second
-  waiting-loses-nothing first second clock higher =
+  -- Demand 3, for any two askings, the second with no lower clock and no lower rights: by verdict,
+  pub waiting-by-verdict : (first second : Asking) → first .clock .0 ≤ second .clock .0 → NoLower (first .rights) (second .rights) → LosesNothing q (byVerdict verdict q table) first second
+  waiting-by-verdict first second clock higher =
       let again = asked-again (first .clock) (second .clock) (first .rights) (second .rights) clock higher in
       record {
         again = again;
@@ -140,3 +141,9 @@ module _ (verdict : Bool) (q : Request) (table : List ℕ) where
             let was = both-true (ofGroup (namedOf q) i) _ (sym (reaches-up-to first one e .reached i) ∙ reached) in
             reaches-up-to second one (again e .accepted) .reached i ∙ rw (was .0, later-transitive i _ _ (not-true _ (was .1)) (again e .notEarlier));
       }
+
+-- and by descriptor.
+pub waiting-loses-nothing : (descriptor : List ℕ) (q : Request) (table : List ℕ) (first second : Asking) → first .clock .0 ≤ second .clock .0 → NoLower (first .rights) (second .rights)
+    → LosesNothing q (byDescriptor descriptor q table) first second
+unfolding decision
+waiting-loses-nothing descriptor q table = waiting-by-verdict (isSound descriptor) q table

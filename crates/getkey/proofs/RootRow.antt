@@ -21,7 +21,7 @@ use Rattle.getkey.specs.declared.Answer.the-variants.{Granted, Create, R
 use Rattle.request.proofs.Requests.{askedOf}
 use Rattle.roottable.specs.Rows.{rowSize, rowCount, suitable, tableWrong}
 use Rattle.roottable.specs.Selection.{chosenRow}
-use Rattle.getkey.specs.Deciding.{wantedOf, withoutRow, withRow, granting, decision}
+use Rattle.getkey.specs.Deciding.{wantedOf, withoutRow, withRow, granting, decisionByVerdict}
 use Rattle.roottable.proofs.Choice.{Chosen, NoneSuits, Says, suits, ranks, chosen-row}
 use Rattle.getkey.proofs.Decisions.{Passed, passed-decided}
 
@@ -49,7 +49,7 @@ with-row found.None (root.Given id) asked table at form e s = (refl, s)
 
 -- Granted: the row is suitable, no suitable one is higher, none before it as high. Refused: none is suitable.
 pub row-says : (verdict : Bool) (rights : Rights) (q : Request) (t : FileTime) (table : List ℕ) → Passed verdict rights q (gkidAt t) → tableWrong (length table) ≡ false
-    → RowSays (q .root) (askedOf q) table (decision verdict rights q t table)
+    → RowSays (q .root) (askedOf q) table (decisionByVerdict verdict rights q t table)
 unfolding granting
 row-says verdict rights q t table p whole =
     rw (passed-decided verdict rights q t table p .is)

@@ -1,6 +1,6 @@
--- Document 01, "Bench cases": the T cases on times, start times and the decision, in one table; an accepted answer of each kind of request;
--- and demand 3 on one of them.
-use Rattle.lemmas.proofs.Basics.{ℕ, _+_, arith, Bool, true, false, List, [], _∷_, _++_, map, _≡_, refl, ap}
+-- Document 01, "Bench cases": the T cases on times, start times and the decision, in one table, with the least sound descriptor and by verdict; an
+-- accepted answer of each kind of request; and demand 3 on one of them.
+use Rattle.lemmas.proofs.Basics.{ℕ, _+_, arith, Bool, true, false, List, [], _∷_, _++_, map, _≡_, refl, ap, replicate}
 use lib.IntN.{ℤ, pos, negsuc}
 use Rattle.refusal.specs.Number.{numberOf}
 use Rattle.refusal.specs.Chain.{firstOf, unlessRefused}
@@ -13,6 +13,8 @@ use Rattle.gkid.specs.Conversion.{l0Step, gkidAt}
 use Rattle.gkid.specs.Start.{startOf, startNumber, startShown}
 use Rattle.rootid.specs.declared.RootId.{RootId}
 use Rattle.rootid.specs.Root.{rootAt, rootBytes, sameRoot}
+use Rattle.descriptor.specs.Checking as descriptor
+use Rattle.descriptor.specs.Checking.{findingNumber, findingOf, headSound, isSound}
 use Rattle.keys.specs.declared.Form.{Form}
 use Rattle.keys.specs.declared.Form.the-variants as form
 use Rattle.keys.specs.KeyRule.{keysAllowed, l1KeyAllowed, l2KeyAllowed, keyChecks}
@@ -32,7 +34,7 @@ use Rattle.request.specs.Indices.{below, outside, outOfRange, unset, mixed, lat
 use Rattle.request.specs.Narrowed.{narrowedOf}
 use Rattle.roottable.specs.Rows.{tableWrong, rowAt, suitable, rank}
 use Rattle.roottable.specs.Selection.{orElse, firstWhere, firstHighest, chosenRow}
-use Rattle.getkey.specs.Deciding.{rightsTooLow, checks, grantedAt, formFor, wantedOf, withoutRow, withRow, granting, decision, answerNumber, answerAt, answerForm, answerCreates}
+use Rattle.getkey.specs.Deciding.{rightsTooLow, checks, grantedAt, formFor, wantedOf, withoutRow, withRow, granting, decision, decisionByVerdict, answerNumber, answerAt, answerForm, answerCreates}
 use Rattle.getkey.specs.Waiting.{height, NoWorse}
 use Rattle.getkey.proofs.DemandThree.{waiting-loses-nothing}
 
@@ -45,6 +47,10 @@ id = record { high = 1; low = 2 }
 
 unfoldable pub rows : List ℕ
 rows = rootBytes id ++ (beBytes 8 3 ++ beBytes 8 4)
+
+-- document 02, No. 5: revision 1, the control bit 0x8000, and no item
+unfoldable pub least : List ℕ
+least = 1 ∷ 0 ∷ 0 ∷ 128 ∷ replicate 16 0
 
 unfoldable pub asking : Root → ℤ → ℤ → ℤ → Request
 asking root l0 l1 l2 = record { root = root; l0 = l0; l1 = l1; l2 = l2 }
@@ -64,11 +70,10 @@ pub data Question : Type 0 where
 unfoldable pub shownOf : Answer → Shown
 shownOf a = decided (answerNumber a) (answerAt a) (answerForm a) (reachTotal (formReach (answerForm a) (answerAt a)))
 
--- seed rights and a suitable root
-unfoldable pub reply : Question → Shown
-reply (time t) = identifier (gkidAt (record { 0 = t }))
-reply (start i) = began (startNumber (startOf i)) (startShown (startOf i))
-reply (ask q) = shownOf (decision true Seed q clock rows)
+unfoldable pub reply : (Request → Answer) → Question → Shown
+reply by (time t) = identifier (gkidAt (record { 0 = t }))
+reply by (start i) = began (startNumber (startOf i)) (startShown (startOf i))
+reply by (ask q) = shownOf (by q)
 
 abbrev pub refused : ℕ → Shown
 refused number = decided number (gkid 0 0 0) form.Keyless 0
@@ -91,10 +96,14 @@ cases =
     ∷ (ask (asking root.None (pos 0) (negsuc 0) (pos 0)), refused 15)
     ∷ []
 
+-- seed rights and a suitable root
+unfoldable pub answeredBy : (Rights → Request → FileTime → List ℕ → Answer) → List Shown
+answeredBy by = map (λ c. reply (λ q. by Seed q clock rows) (c .0)) cases
+
 -- Each is answered as the table says.
-pub t-cases : map (λ c. reply (c .0)) cases ≡ map (λ c. c .1) cases
-unfolding clock id rows asking reply shownOf cases startOf startNumber startShown numberOf firstOf leOf leBytes beOf beBytes partOf leAt beAt indexAbove31 gkidAt rootAt rootBytes sameRoot keysAllowed l1KeyAllowed l2KeyAllowed keysOf seedForm ofGroup l1Reaches l2Reaches reaches bitAt bit rowWhere count table rowOf mapOf emptyMap totalOf seedChecks keyChecks keysReach refusedReach formReach reachTotal below outside outOfRange unset mixed laterThenZ laterThanNow names natural namedOf indexChecks narrowedOf tableWrong rowAt suitable rank every orElse firstWhere firstHighest chosenRow rightsTooLow checks grantedAt formFor wantedOf withoutRow withRow granting unlessRefused decision answerNumber answerAt answerForm
-t-cases = refl
+pub t-cases : (answeredBy (decision least) ≡ map (λ c. c .1) cases) × (answeredBy (decisionByVerdict true) ≡ map (λ c. c .1) cases)
+unfolding clock id rows least asking reply shownOf cases answeredBy startOf startNumber startShown numberOf firstOf leOf leBytes beOf beBytes partOf leAt beAt indexAbove31 gkidAt rootAt rootBytes sameRoot keysAllowed l1KeyAllowed l2KeyAllowed keysOf seedForm ofGroup l1Reaches l2Reaches reaches bitAt bit rowWhere count table rowOf mapOf emptyMap totalOf seedChecks keyChecks keysReach refusedReach formReach reachTotal below outside outOfRange unset mixed laterThenZ laterThanNow names natural namedOf indexChecks narrowedOf tableWrong rowAt suitable rank every orElse firstWhere firstHighest chosenRow rightsTooLow checks grantedAt formFor wantedOf withoutRow withRow granting unlessRefused isSound findingNumber findingOf headSound descriptor.names decision decisionByVerdict answerNumber answerAt answerForm
+t-cases = (refl, refl)
 
 -- An accepted answer of each kind of request: root given or not, and all -1 or named, which takes seed rights; and CREATE. So nothing that
 -- is shown of accepted answers is empty.
@@ -110,7 +119,7 @@ given (root.Given id) = true
 
 unfoldable pub kindOf : Rights → Request → List ℕ → Kind
 kindOf rights q t =
-    record { given = given (q .root); naming = names q; number = answerNumber (decision true rights q clock t); create = answerCreates (decision true rights q clock t) }
+    record { given = given (q .root); naming = names q; number = answerNumber (decision least rights q clock t); create = answerCreates (decision least rights q clock t) }
 
 abbrev pub accepted : Bool → Bool → Bool → Kind
 accepted given naming create = record { given = given; naming = naming; number = 0; create = create }
@@ -131,7 +140,7 @@ kinds =
     ∷ []
 
 pub each-kind-accepted : map (λ k. kindOf (k .0 .0) (k .0 .1 .0) (k .0 .1 .1)) kinds ≡ map (λ k. k .1) kinds
-unfolding clock id rows asking latest kinds kindOf given numberOf firstOf leOf leBytes beOf beBytes partOf leAt beAt gkidAt rootAt rootBytes sameRoot below outside outOfRange unset mixed laterThenZ laterThanNow names natural namedOf indexChecks narrowedOf tableWrong rowAt suitable rank every orElse firstWhere firstHighest chosenRow rightsTooLow checks grantedAt wantedOf withoutRow withRow granting unlessRefused decision answerNumber answerCreates
+unfolding clock id rows least asking latest kinds kindOf given numberOf firstOf leOf leBytes beOf beBytes partOf leAt beAt gkidAt rootAt rootBytes sameRoot below outside outOfRange unset mixed laterThenZ laterThanNow names natural namedOf indexChecks narrowedOf tableWrong rowAt suitable rank every orElse firstWhere firstHighest chosenRow rightsTooLow checks grantedAt wantedOf withoutRow withRow granting unlessRefused isSound findingNumber findingOf headSound descriptor.names decision decisionByVerdict answerNumber answerCreates
 each-kind-accepted = refl
 
 numberFirst : List Kind → ℕ
@@ -139,8 +148,8 @@ numberFirst [] = 1
 numberFirst (k ∷ ks) = k .number
 
 -- Demand 3 on the first of them, asked again an L0 step later with seed rights.
-pub public-then-seed : NoWorse (decision true Public (latest root.None) clock rows) (decision true Seed (latest root.None) (record { 0 = clock .0 + l0Step }) rows)
+pub public-then-seed : NoWorse (decision least Public (latest root.None) clock rows) (decision least Seed (latest root.None) (record { 0 = clock .0 + l0Step }) rows)
 unfolding height kinds kindOf numberFirst
 public-then-seed =
-    waiting-loses-nothing true (latest root.None) rows (record { clock = clock; rights = Public }) (record { clock = record { 0 = clock .0 + l0Step }; rights = Seed }) (omega arith) (omega arith) .again
+    waiting-loses-nothing least (latest root.None) rows (record { clock = clock; rights = Public }) (record { clock = record { 0 = clock .0 + l0Step }; rights = Seed }) (omega arith) (omega arith) .again
     (ap numberFirst each-kind-accepted)

@@ -1,4 +1,4 @@
--- Document 01, "The GetKey decision".
+-- Document 01, "The GetKey decision", by the verdict on a security descriptor, and by the descriptor's bytes (document 02, No. 5).
 use Prim.Native.Nat.{ℕ, _<_, _^_}
 use mathlib.Core.Bool.{Bool, true, false, cond, not}
 use mathlib.Core.List.{List, [], _∷_}
@@ -12,6 +12,7 @@ use Rattle.gkid.specs.declared.Gkid.{Gkid}
 use Rattle.gkid.specs.Identifier.{gkid, InGroup}
 use Rattle.gkid.specs.Conversion.{gkidAt}
 use Rattle.gkid.specs.Start.{startTime}
+use Rattle.descriptor.specs.Checking.{isSound}
 use Rattle.keys.specs.declared.Form.{Form}
 use Rattle.keys.specs.declared.Form.the-variants as form
 use Rattle.keys.specs.Forms.{seedForm}
@@ -88,9 +89,13 @@ granting rights root (narrowing.Refused r) present table = Refused r
 granting rights root (narrowing.Asks asked) present table =
     withRow (chosenRow (wantedOf root asked) table) root asked (grantedAt asked root present) (formFor rights (grantedAt asked root present))
 
-unfoldable pub decision : Bool → Rights → Request → FileTime → List ℕ → Answer
-decision verdict rights q clock table =
+unfoldable pub decisionByVerdict : Bool → Rights → Request → FileTime → List ℕ → Answer
+decisionByVerdict verdict rights q clock table =
     unlessRefused Refused (firstOf (checks verdict rights q (gkidAt clock) (length table))) (granting rights (q .root) (narrowedOf q) (gkidAt clock) table)
+
+-- the descriptor's bytes in place of the verdict: it is yes where they are sound
+unfoldable pub decision : List ℕ → Rights → Request → FileTime → List ℕ → Answer
+decision descriptor rights q clock table = decisionByVerdict (isSound descriptor) rights q clock table
 
 -- the start of what is named, as 64 bits hold it
 abbrev pub Starts : Asked → Type 0

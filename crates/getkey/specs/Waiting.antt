@@ -13,7 +13,7 @@ use Rattle.request.specs.Indices.{names, namedOf}
 use Rattle.getkey.specs.declared.Rights.{Rights}
 use Rattle.getkey.specs.declared.Rights.the-variants.{None, Public, Seed}
 use Rattle.getkey.specs.declared.Answer.{Answer}
-use Rattle.getkey.specs.Deciding.{decision, answerNumber, answerAt, answerForm, answerRow, answerCreates}
+use Rattle.getkey.specs.Deciding.{decision, decisionByVerdict, answerNumber, answerAt, answerForm, answerRow, answerCreates}
 
 -- none, public, seed
 unfoldable pub height : Rights → ℕ
@@ -55,17 +55,20 @@ pub record ReachesUpTo (named : Gkid) (answer : Answer) : Type 0 where
   pub total : reachTotal (formReach (answerForm answer) (answerAt answer)) ≡ 32 * answerAt answer .l1 .0 + answerAt answer .l2 .0 + 1
   pub itself : reachedBy answer named ≡ true
 
-module _ (verdict : Bool) (q : Request) (table : List ℕ) where
-  abbrev pub answerTo : Asking → Answer
-  answerTo a = decision verdict (a .rights) q (a .clock) table
+-- the answers to one request, with one descriptor, or one verdict, and one root table
+abbrev pub byDescriptor : List ℕ → Request → List ℕ → Asking → Answer
+byDescriptor descriptor q table a = decision descriptor (a .rights) q (a .clock) table
 
-  -- "Waiting loses nothing. The same request, table and verdict asked again with the clock equal or later and the rights equal or higher
-  -- (none, public, seed):
-  pub record LosesNothing (first second : Asking) : Type 0 where
-    -- if the first is accepted, so is the second, with the same root row or the same CREATE, and an identifier not earlier.
-    pub again : Accepted (answerTo first) → NoWorse (answerTo first) (answerTo second)
-    -- Whenever a request that names an identifier is accepted, the granted form reaches exactly the identifiers of that L0 group up to the
-    -- granted one, total 32·L1 + L2 + 1; so the named one is reached,
-    pub whenever : (a : Asking) → names q ≡ true → Accepted (answerTo a) → ReachesUpTo (namedOf q) (answerTo a)
-    -- and what the first form reaches, the second reaches too."
-    pub still : names q ≡ true → Accepted (answerTo first) → (i : Gkid) → reachedBy (answerTo first) i ≡ true → reachedBy (answerTo second) i ≡ true
+abbrev pub byVerdict : Bool → Request → List ℕ → Asking → Answer
+byVerdict verdict q table a = decisionByVerdict verdict (a .rights) q (a .clock) table
+
+-- "Waiting loses nothing. The same request, table and verdict asked again with the clock equal or later and the rights equal or higher
+-- (none, public, seed): [No. 5: one descriptor for one verdict]
+pub record LosesNothing (q : Request) (answerTo : Asking → Answer) (first second : Asking) : Type 0 where
+  -- if the first is accepted, so is the second, with the same root row or the same CREATE, and an identifier not earlier.
+  pub again : Accepted (answerTo first) → NoWorse (answerTo first) (answerTo second)
+  -- Whenever a request that names an identifier is accepted, the granted form reaches exactly the identifiers of that L0 group up to the
+  -- granted one, total 32·L1 + L2 + 1; so the named one is reached,
+  pub whenever : (a : Asking) → names q ≡ true → Accepted (answerTo a) → ReachesUpTo (namedOf q) (answerTo a)
+  -- and what the first form reaches, the second reaches too."
+  pub still : names q ≡ true → Accepted (answerTo first) → (i : Gkid) → reachedBy (answerTo first) i ≡ true → reachedBy (answerTo second) i ≡ true

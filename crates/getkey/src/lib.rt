@@ -1,5 +1,5 @@
-// Document 01, "The GetKey decision" (MS-GKDI 3.1.4.1): from a descriptor's verdict, rights, a request, a clock reading and the root
-// table to the identifier granted, the form and the root row, or the refusal.
+// Document 01, "The GetKey decision" (MS-GKDI 3.1.4.1): from a security descriptor or the verdict on it, rights, a request, a clock reading
+// and the root table to the identifier granted, the form and the root row, or the refusal.
 ghost use mathlib.Core.Path.{_≡_};
 ghost use Prim.Native.Nat.{ℕ, _<_, _^_};
 ghost use lib.ListN.{take};
@@ -7,7 +7,8 @@ ghost use Rattle.refusal.specs.Chain.{firstOf};
 ghost use Rattle.gkid.specs.Identifier.{InGroup};
 ghost use Rattle.gkid.specs.Start.{startTime};
 ghost use Rattle.request.specs.declared.Narrowing.the-variants.{Asks};
-ghost use Rattle.getkey.specs.Deciding.{rightsTooLow, checks, grantedAt, formFor, wantedOf, withoutRow, granting, decision, Starts};
+ghost use Rattle.getkey.specs.Deciding.{rightsTooLow, checks, grantedAt, formFor, wantedOf, withoutRow, granting, decisionByVerdict, decision, Starts};
+use descriptor::is_sound;
 use gkid::FileTime;
 use gkid::Gkid;
 use gkid::L1;
@@ -39,15 +40,28 @@ pub enum Answer {
     Refused(Refusal),
 }
 
-// The decision. The clock is converted once, and the table is passed over at most once.
+// The decision. 16 where the descriptor is not sound.
 pub fn decide(
+    descriptor: &[u8],
+    rights: Rights,
+    request: Request,
+    clock: FileTime,
+    table: &[u8],
+) -> Answer
+    ensures { λ r. ⌜ r ≡ decision (now (descriptor .entry)) rights request clock (now (table .entry)) ⌝ }
+{
+    decide_by_verdict(is_sound(descriptor), rights, request, clock, table)
+}
+
+// The decision where a verdict stands for the descriptor. The clock is converted once, and the table is passed over at most once.
+pub fn decide_by_verdict(
     verdict: bool,
     rights: Rights,
     request: Request,
     clock: FileTime,
     table: &[u8],
 ) -> Answer
-    ensures { λ r. ⌜ r ≡ decision verdict rights request clock (now (table .entry)) ⌝ }
+    ensures { λ r. ⌜ r ≡ decisionByVerdict verdict rights request clock (now (table .entry)) ⌝ }
 {
     let present = Gkid::at(clock);
     match judge(verdict, rights, request, present) {

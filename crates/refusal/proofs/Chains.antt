@@ -110,6 +110,19 @@ unfolding unlessRefused
 unless-zero number told tells Accepted rest z = (refl, z)
 unless-zero number told tells (Refused r) rest z = absurd (number-not-zero r (sym (tells r) ∙ z))
 
+-- what is said of every refusal in a list of checks
+abbrev pub Each : (Refusal → Type 0) → List Check → Type 0
+Each P [] = Unit {0}
+Each P ((applies ⇒ r) ∷ checks) = P r × Each P checks
+
+-- What holds of every refusal that they tell, and of what stands behind them, holds of the answer.
+pub unless-each : {A : Type 0} (P : A → Type 0) (told : Refusal → A) (checks : List Check) (rest : A) → Each (λ r. P (told r)) checks → P rest
+    → P (unlessRefused told (firstOf checks) rest)
+unfolding firstOf unlessRefused
+unless-each P told [] rest each behind = behind
+unless-each P told ((true ⇒ r) ∷ checks) rest each behind = each .0
+unless-each P told ((false ⇒ r) ∷ checks) rest each behind = unless-each P told checks rest (each .1) behind
+
 -- two outcomes in code, one behind the other
 pub goes-is : {o p q r : Outcome} → o ≡ p → q ≡ r → goesOn o q ≡ goesOn p r
 goes-is e f = λ i. goesOn (e i) (f i)

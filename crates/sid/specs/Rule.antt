@@ -12,5 +12,13 @@ revision s = getD s 0 0
 abbrev pub count : List ℕ → ℕ
 count s = getD s 1 0
 
+abbrev pub sidSize : List ℕ → ℕ
+sidSize s = 8 + 4 * count s
+
+-- a SID stands at the start of bytes, and others may follow it
+unfoldable pub startsSid : List ℕ → Bool
+startsSid s = leb 8 (length s) && (eqb (revision s) 1 && (leb (count s) 15 && leb (sidSize s) (length s)))
+
+-- bytes are one SID: none follows
 unfoldable pub isSid : List ℕ → Bool
-isSid s = leb 8 (length s) && (eqb (revision s) 1 && (leb (count s) 15 && eqb (length s) (8 + 4 * count s)))
+isSid s = startsSid s && eqb (length s) (sidSize s)

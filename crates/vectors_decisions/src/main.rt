@@ -1,5 +1,5 @@
-// Document 01, "The GetKey decision": requests at the clock reading of (5, 3, 7). Each case is a line: its name, then what the library
-// answers. The file `stdout` beside src/ holds what the paper says.
+// Document 01, "The GetKey decision": requests at the clock reading of (5, 3, 7), with the least sound descriptor, and the T cases by verdict
+// too. Each case is a line: its name, then what the library answers. The file `stdout` beside src/ holds what the paper says.
 use getkey::Answer;
 use getkey::Rights;
 use gkid::FileTime;
@@ -20,6 +20,7 @@ const LATEST: [i32; 3] = [-1, -1, -1];
 
 fn main() {
     bench();
+    descriptors();
     granted();
     indices();
     rights();
@@ -30,12 +31,12 @@ fn main() {
 }
 
 fn bench() {
-    asked(b"decision: root given, now's L0: ", root(1), [5, 0, 0]);
-    asked(b"decision: root given, earlier L0: ", root(1), [4, 2, 2]);
-    asked(b"decision: no root, named: ", Root::None, [4, 0, 2]);
-    asked(b"decision: next after now: ", Root::None, [5, 3, 8]);
-    asked(b"decision: L1 of -1 alone: ", Root::None, [0, -1, 0]);
-    asked(b"decision: L2 of 32: ", Root::None, [0, 0, 32]);
+    both_ways(b"decision: root given, now's L0: ", root(1), [5, 0, 0]);
+    both_ways(b"decision: root given, earlier L0: ", root(1), [4, 2, 2]);
+    both_ways(b"decision: no root, named: ", Root::None, [4, 0, 2]);
+    both_ways(b"decision: next after now: ", Root::None, [5, 3, 8]);
+    both_ways(b"decision: L1 of -1 alone: ", Root::None, [0, -1, 0]);
+    both_ways(b"decision: L2 of 32: ", Root::None, [0, 0, 32]);
 }
 
 fn granted() {
@@ -249,17 +250,49 @@ fn starts() {
     );
 }
 
+// 16 exactly where the descriptor is not sound. An owner that stands at 20 has no byte in 20.
+fn descriptors() {
+    let mut bytes = least();
+    described(b"decision: a sound descriptor: ", &bytes, LATEST);
+    described(
+        b"decision: 19 bytes of it: ",
+        cases::first(&bytes, 19),
+        LATEST,
+    );
+    described(b"decision: none of it: ", cases::first(&bytes, 0), LATEST);
+    cases::numbers(&mut bytes, 4, &[20]);
+    described(b"decision: with an owner outside: ", &bytes, LATEST);
+    described(b"decision: 16 before 14: ", &bytes, [0, 0, 32]);
+}
+
+// The least sound descriptor: revision 1, the control bit 0x8000, and no item.
+fn least() -> [u8; 20] {
+    [1, 0, 0, 128, 0, 0, 0, 0, 0, 0, 0, 0, 0, 0, 0, 0, 0, 0, 0, 0]
+}
+
+// Seed rights, no root, and one row that suits.
+fn described(name: &[u8], descriptor: &[u8], indices: [i32; 3]) {
+    let mut table = [0; 32];
+    row(&mut table, 0, 1, 3, 4);
+    let asked = request(Root::None, indices);
+    let answer = getkey::decide(descriptor, Rights::Seed, asked, NOW, &table);
+    print(decided(Line::new().text(name), answer));
+}
+
 // Each refusal where the next in order applies too.
 fn orders() {
     let short = [0; 31];
-    let refused = getkey::decide(
+    let refused = getkey::decide_by_verdict(
         false,
         Rights::Seed,
         request(Root::None, [0, 0, 32]),
         NOW,
         &short,
     );
-    print(decided(Line::new().text(b"decision: 16 before 14: "), refused));
+    print(decided(
+        Line::new().text(b"decision: 16 before 14, by verdict: "),
+        refused,
+    ));
     asked(b"decision: 14 before 15: ", Root::None, [0, -1, 32]);
     asked(
         b"decision: 14 before 15, L0 of -2: ",
@@ -333,6 +366,15 @@ fn put_time(dst: &mut [u8], time: u64) {
     wire::copy_into(dst, &b);
 }
 
+// With seed rights, and one row that suits: by descriptor, then by verdict.
+fn both_ways(name: &[u8], root: Root, indices: [i32; 3]) {
+    asked(name, root, indices);
+    let mut table = [0; 32];
+    row(&mut table, 0, 1, 3, 4);
+    let answer = getkey::decide_by_verdict(true, Rights::Seed, request(root, indices), NOW, &table);
+    print(decided(Line::new().text(name).text(b"by verdict "), answer));
+}
+
 // With seed rights, and one row that suits.
 fn asked(name: &[u8], root: Root, indices: [i32; 3]) {
     allowed(name, Rights::Seed, root, indices);
@@ -346,7 +388,8 @@ fn allowed(name: &[u8], rights: Rights, root: Root, indices: [i32; 3]) {
 }
 
 fn answer(name: &[u8], rights: Rights, root: Root, indices: [i32; 3], table: &[u8]) {
-    let answer = getkey::decide(true, rights, request(root, indices), NOW, table);
+    let descriptor = least();
+    let answer = getkey::decide(&descriptor, rights, request(root, indices), NOW, table);
     print(decided(Line::new().text(name), answer));
 }
 

@@ -3,6 +3,7 @@
 ghost use mathlib.Core.Path.{_≡_};
 ghost use mathlib.Core.List.{[], _∷_};
 ghost use Prim.Native.Nat.{_+_, _*_};
+ghost use lib.ListN.{drop};
 ghost use Rattle.wire.specs.Numbers.{leOf, leBytes};
 ghost use Rattle.wire.specs.Parts.{leAt, beAt, partOf, startOf, onto, le32Bytes};
 
@@ -23,6 +24,16 @@ pub fn part(s: &[u8], span: Span) -> &[u8]
         if len <= s.len() - at {
             return &s[at..at + len];
         }
+    }
+    &s[0..0]
+}
+
+// The bytes from `at` on; none where that lies behind the end.
+pub fn rest(s: &[u8], at: usize) -> &[u8]
+    ensures { λ r. ⌜ now r ≡ drop at (now (s .entry)) ⌝ }
+{
+    if at <= s.len() {
+        return &s[at..];
     }
     &s[0..0]
 }

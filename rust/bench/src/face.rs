@@ -173,7 +173,29 @@ pub unsafe extern "C" fn identifier_older(at: Identifier) -> IdentifierAnswer {
     expected::identifier_older(at)
 }
 
+pub unsafe extern "C" fn descriptor_check(descriptor: *const u8, len: usize) -> u32 {
+    expected::descriptor_check(input(descriptor, len))
+}
+
 pub unsafe extern "C" fn decide(
+    descriptor: *const u8,
+    descriptor_len: usize,
+    rights: u32,
+    request: Request,
+    clock: u64,
+    table: *const u8,
+    table_len: usize,
+) -> DecisionAnswer {
+    expected::decide(
+        input(descriptor, descriptor_len),
+        rights,
+        &request,
+        clock,
+        input(table, table_len),
+    )
+}
+
+pub unsafe extern "C" fn decide_by_verdict(
     verdict: u32,
     rights: u32,
     request: Request,
@@ -181,7 +203,7 @@ pub unsafe extern "C" fn decide(
     table: *const u8,
     len: usize,
 ) -> DecisionAnswer {
-    expected::decide(verdict, rights, &request, clock, input(table, len))
+    expected::decide_by_verdict(verdict, rights, &request, clock, input(table, len))
 }
 
 pub unsafe extern "C" fn choose(

@@ -9,9 +9,10 @@ mod sides;
 mod time;
 
 use operations::{
-    choose, decide, efskey_read, efskey_write, entry_read, entry_write, envelope_reach,
-    envelope_read, envelope_write, form_reach, identifier_older, identifier_start, list_judge,
-    list_walk, segment_read, segment_size, segment_write, time_identifier, Asked, Output,
+    choose, decide, decide_by_verdict, descriptor_check, efskey_read, efskey_write, entry_read,
+    entry_write, envelope_reach, envelope_read, envelope_write, form_reach, identifier_older,
+    identifier_start, list_judge, list_walk, segment_read, segment_size, segment_write,
+    time_identifier, Asked, Output,
 };
 use records as make;
 use sides::{Meter, Row, Series};
@@ -182,16 +183,60 @@ fn operations<F>(meter: Meter<F>) -> Vec<Row<F>> {
         row("start", "(5, 3, 7)", identifier_start(meter)),
         row("older", "(5, 3, 7)", identifier_older(meter)),
         row(
+            "descriptor check",
+            "20 bytes, the least",
+            descriptor_check(meter, 0, &make::descriptor()),
+        ),
+        row(
+            "descriptor check",
+            "20 bytes, wrong revision",
+            descriptor_check(meter, 1, &make::with(make::descriptor(), 0, 0x8000_0002)),
+        ),
+        row(
+            "descriptor check",
+            "two ACLs of 100 entries",
+            descriptor_check(meter, 0, &make::two_acls(100)),
+        ),
+        row(
+            "descriptor check",
+            "65,535 bytes, 16,376 entries twice",
+            descriptor_check(meter, 0, &make::most_entries()),
+        ),
+        row(
             "decision",
             "root given, 8 rows",
-            decide(meter, Asked::Root, 8),
+            decide(meter, &make::descriptor(), Asked::Root, 8),
         ),
         row(
             "decision",
             "latest, 8 rows",
-            decide(meter, Asked::Latest, 8),
+            decide(meter, &make::descriptor(), Asked::Latest, 8),
         ),
-        row("decision", "named, 8 rows", decide(meter, Asked::Named, 8)),
+        row(
+            "decision",
+            "named, 8 rows",
+            decide(meter, &make::descriptor(), Asked::Named, 8),
+        ),
+        row(
+            "decision",
+            "named, 8 rows, two ACLs of 100 entries",
+            decide(meter, &make::two_acls(100), Asked::Named, 8),
+        ),
+        row(
+            "decision by verdict",
+            "root given, 8 rows",
+            decide_by_verdict(meter, Asked::Root, 8),
+        ),
+        row(
+            "decision by verdict",
+            "latest, 8 rows",
+            decide_by_verdict(meter, Asked::Latest, 8),
+        ),
+        row(
+            "decision by verdict",
+            "named, 8 rows",
+            decide_by_verdict(meter, Asked::Named, 8),
+        ),
         row(
             "choice",
             "88 and 368 bytes",
@@ -229,6 +274,9 @@ const BLOCKS: [usize; 4] = [0, 16, 1_024, 16_376];
 
 /// Units of the four texts, up to an envelope of 65,528 bytes.
 const UNITS: [usize; 5] = [1, 10, 100, 1_000, 8_165];
+
+/// Numbers of entries of a DACL, up to the most that a descriptor has.
+const ENTRIES: [usize; 5] = [1, 10, 100, 1_000, 16_376];
 
 const ROWS: [usize; 4] = [0, 1, 8, 64];
 
@@ -270,15 +318,22 @@ fn growth<F>(meter: Meter<F>) -> Vec<Series<F>> {
         series("envelope reach", "bytes", 0, &UNITS, |units| {
             (len(units), envelope_reach(meter, 0, &envelope(units)))
         }),
-        series("decision, latest", "rows", 1, &ROWS, |rows| {
-            (rows, decide(meter, Asked::Latest, rows))
+        series("descriptor check", "entries", 0, &ENTRIES, |count| {
+            (count, descriptor_check(meter, 0, &make::dacl(count)))
         }),
-        series("decision, named", "rows", 1, &ROWS, |rows| {
-            (rows, decide(meter, Asked::Named, rows))
+        series("decision by verdict, latest", "rows", 1, &ROWS, |rows| {
+            (rows, decide_by_verdict(meter, Asked::Latest, rows))
         }),
-        series("decision, root given", "rows", 1, &ROWS, |rows| {
-            (rows, decide(meter, Asked::Root, rows))
+        series("decision by verdict, named", "rows", 1, &ROWS, |rows| {
+            (rows, decide_by_verdict(meter, Asked::Named, rows))
         }),
+        series(
+            "decision by verdict, root given",
+            "rows",
+            1,
+            &ROWS,
+            |rows| (rows, decide_by_verdict(meter, Asked::Root, rows)),
+        ),
     ]
 }
 

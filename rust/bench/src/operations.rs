@@ -407,36 +407,84 @@ pub enum Asked {
     Named,
 }
 
-pub fn decide<F>(meter: Meter<F>, asked: Asked, rows: usize) -> F {
+impl Asked {
+    /// The request, for the library and for the reference.
+    fn requests(self) -> (Request, by::decision::Request) {
+        let (given, index) = match self {
+            Asked::Root => (codes::ROOT_GIVEN, 3),
+            Asked::Latest => (codes::ROOT_NONE, -1),
+            Asked::Named => (codes::ROOT_NONE, 3),
+        };
+        let request = Request {
+            root_given: given,
+            l0: index,
+            l1: index,
+            l2: index,
+            root: Root { bytes: make::ROOT },
+        };
+        let same = by::decision::Request {
+            root: (given == codes::ROOT_GIVEN).then_some(make::ROOT),
+            l0: index,
+            l1: index,
+            l2: index,
+        };
+        (request, same)
+    }
+
+    /// The number of the answer: an empty table has a root key to create for the latest, and none for the others.
+    fn number(self, rows: usize) -> u32 {
+        match (self, rows) {
+            (Asked::Root | Asked::Named, 0) => 19,
+            _ => 0,
+        }
+    }
+}
+
+pub fn descriptor_check<F>(meter: Meter<F>, number: u32, input: &[u8]) -> F {
+    let faces = [raw::gw_descriptor_check, face::descriptor_check];
+    read(meter, number, input, faces, by::descriptor::check)
+}
+
+pub fn decide<F>(meter: Meter<F>, descriptor: &[u8], asked: Asked, rows: usize) -> F {
     let table = &make::table(rows)[..];
-    let (given, index) = match asked {
-        Asked::Root => (codes::ROOT_GIVEN, 3),
-        Asked::Latest => (codes::ROOT_NONE, -1),
-        Asked::Named => (codes::ROOT_NONE, 3),
-    };
-    let request = Request {
-        root_given: given,
-        l0: index,
-        l1: index,
-        l2: index,
-        root: Root { bytes: make::ROOT },
-    };
-    let same = by::decision::Request {
-        root: (given == codes::ROOT_GIVEN).then_some(make::ROOT),
-        l0: index,
-        l1: index,
-        l2: index,
-    };
-    // An empty table has a root key to create for the latest, and none for the others.
-    let number = match (asked, rows) {
-        (Asked::Root | Asked::Named, 0) => 19,
-        _ => 0,
-    };
-    let reference = black_box(by::decision::decide as fn(_, _, &_, _, &[u8]) -> _);
+    let (request, same) = asked.requests();
+    let reference = black_box(by::decision::decide as fn(&[u8], _, &_, _, &[u8]) -> _);
     measure(
         meter,
-        number,
+        asked.number(rows),
         [raw::gw_decide, face::decide],
+        // SAFETY: each pointer and its length are a slice's, lent for the call.
+        |decide| unsafe {
+            decide(
+                black_box(descriptor.as_ptr()),
+                descriptor.len(),
+                codes::RIGHTS_SEED,
+                black_box(request),
+                black_box(CLOCK),
+                table.as_ptr(),
+                table.len(),
+            )
+        },
+        || {
+            reference(
+                black_box(descriptor),
+                by::decision::Rights::Seed,
+                black_box(&same),
+                black_box(CLOCK),
+                table,
+            )
+        },
+    )
+}
+
+pub fn decide_by_verdict<F>(meter: Meter<F>, asked: Asked, rows: usize) -> F {
+    let table = &make::table(rows)[..];
+    let (request, same) = asked.requests();
+    let reference = black_box(by::decision::decide_by_verdict as fn(_, _, &_, _, &[u8]) -> _);
+    measure(
+        meter,
+        asked.number(rows),
+        [raw::gw_decide_by_verdict, face::decide_by_verdict],
         // SAFETY: pointer and length are those of one slice, lent for the call.
         |decide| unsafe {
             decide(

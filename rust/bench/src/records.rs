@@ -169,6 +169,55 @@ pub fn envelope(bodies: &Bodies) -> Vec<u8> {
     envelope
 }
 
+/// The least sound security descriptor.
+pub fn descriptor() -> Vec<u8> {
+    let mut descriptor = vec![0; 20];
+    put(&mut descriptor, 0, 0x8000_0001);
+    descriptor
+}
+
+/// An ACL of `count` entries of `size` bytes.
+fn acl(count: usize, size: usize) -> Vec<u8> {
+    let mut acl = vec![0; 8 + count * size];
+    let own = acl.len();
+    acl[2..4].copy_from_slice(&(own as u16).to_le_bytes());
+    acl[4..6].copy_from_slice(&(count as u16).to_le_bytes());
+    for entry in acl[8..].chunks_exact_mut(size) {
+        entry[2..4].copy_from_slice(&(size as u16).to_le_bytes());
+    }
+    acl
+}
+
+/// A descriptor with an owner, a group, and two ACLs of `count` entries of 20 bytes each.
+pub fn two_acls(count: usize) -> Vec<u8> {
+    let mut descriptor = descriptor();
+    for (at, item) in [
+        (4, SID.to_vec()),
+        (8, SID.to_vec()),
+        (12, acl(count, 20)),
+        (16, acl(count, 20)),
+    ] {
+        let offset = descriptor.len() as u32;
+        put(&mut descriptor, at, offset);
+        descriptor.extend(item);
+    }
+    descriptor
+}
+
+/// A descriptor with a DACL of `count` of the least entries, 4 bytes each.
+pub fn dacl(count: usize) -> Vec<u8> {
+    let mut descriptor = with(descriptor(), 16, 20);
+    descriptor.extend(acl(count, 4));
+    descriptor
+}
+
+/// A descriptor of 65,535 bytes with the most entries: SACL and DACL are the same ACL.
+pub fn most_entries() -> Vec<u8> {
+    let mut descriptor = with(dacl(16_376), 12, 20);
+    descriptor.resize(65_535, 0);
+    descriptor
+}
+
 /// A root table of `rows` rows, in use since 0, each created later than the one before it; the last has `ROOT`.
 pub fn table(rows: usize) -> Vec<u8> {
     let mut table = vec![];

@@ -2,12 +2,13 @@
 
 use gishwarem::raw::{
     self, ChoiceAnswer, DecisionAnswer, EfsKeyAnswer, EntryAnswer, EnvelopeAnswer, Head,
-    Identifier, IdentifierAnswer, ListAnswer, ReachAnswer, Request, Root, SegmentAnswer,
-    SizeAnswer, StartAnswer, StepAnswer, WrittenAnswer,
+    Identifier, IdentifierAnswer, ListAnswer, ReachAnswer, Root, SegmentAnswer, SizeAnswer,
+    StartAnswer, StepAnswer, WrittenAnswer,
 };
 use gishwarem::SegmentHead;
 
 use crate::lent::{lend, Output};
+use crate::make::decision::Question;
 use crate::rng::Rng;
 
 // SAFETY, of every question here: `lend` and `Output` own the bytes behind each pointer for the length of the call, and
@@ -195,17 +196,39 @@ pub fn identifier_older(at: Identifier) -> IdentifierAnswer {
     unsafe { raw::gw_identifier_older(at) }
 }
 
-/// The GetKey decision.
-pub fn decide(
-    rng: &mut Rng,
-    verdict: u32,
-    rights: u32,
-    request: Request,
-    clock: u64,
-    table: &[u8],
-) -> DecisionAnswer {
-    lend(rng, [table], |[table]| unsafe {
-        raw::gw_decide(verdict, rights, request, clock, table.start, table.len)
+/// Whether a descriptor is sound.
+pub fn descriptor_check(rng: &mut Rng, descriptor: &[u8]) -> u32 {
+    lend(rng, [descriptor], |[descriptor]| unsafe {
+        raw::gw_descriptor_check(descriptor.start, descriptor.len)
+    })
+}
+
+/// The GetKey decision, by the question's descriptor.
+pub fn decide(rng: &mut Rng, question: &Question) -> DecisionAnswer {
+    let (rights, request, clock) = (question.rights, question.request, question.clock);
+    lend(
+        rng,
+        [&question.descriptor, &question.table],
+        |[descriptor, table]| unsafe {
+            raw::gw_decide(
+                descriptor.start,
+                descriptor.len,
+                rights,
+                request,
+                clock,
+                table.start,
+                table.len,
+            )
+        },
+    )
+}
+
+/// The GetKey decision, by the question's verdict.
+pub fn decide_by_verdict(rng: &mut Rng, question: &Question) -> DecisionAnswer {
+    let (verdict, rights) = (question.verdict, question.rights);
+    let (request, clock) = (question.request, question.clock);
+    lend(rng, [&question.table], |[table]| unsafe {
+        raw::gw_decide_by_verdict(verdict, rights, request, clock, table.start, table.len)
     })
 }
 

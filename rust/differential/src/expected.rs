@@ -15,7 +15,7 @@ use reference::entry::Algorithm;
 use reference::list::Step;
 use reference::reach::{self, Form, Reach};
 use reference::time::{self, Gkid};
-use reference::{efskey, entry, envelope, list, segment};
+use reference::{descriptor, efskey, entry, envelope, list, segment};
 
 /// The answer to a refusal: its number, and zeros.
 macro_rules! refused {
@@ -384,24 +384,63 @@ pub fn identifier_older(at: Identifier) -> IdentifierAnswer {
     }
 }
 
-/// The GetKey decision. A verdict that isn't listed is no; every value but 0 gives a root.
+/// Whether a descriptor is sound: the code of the part that fails first, or 0.
+#[inline]
+pub fn descriptor_check(descriptor: &[u8]) -> u32 {
+    match descriptor::check(descriptor) {
+        Ok(()) => codes::DESCRIPTOR_SOUND,
+        Err(descriptor::Part::Head) => codes::DESCRIPTOR_HEAD,
+        Err(descriptor::Part::Owner) => codes::DESCRIPTOR_OWNER,
+        Err(descriptor::Part::Group) => codes::DESCRIPTOR_GROUP,
+        Err(descriptor::Part::Sacl) => codes::DESCRIPTOR_SACL,
+        Err(descriptor::Part::Dacl) => codes::DESCRIPTOR_DACL,
+    }
+}
+
+/// The GetKey decision, by the descriptor.
 #[inline]
 pub fn decide(
+    descriptor: &[u8],
+    rights_code: u32,
+    request: &Request,
+    clock: u64,
+    table: &[u8],
+) -> DecisionAnswer {
+    let (rights, asked) = (rights(rights_code), asked(request));
+    decided(decision::decide(descriptor, rights, &asked, clock, table))
+}
+
+/// The GetKey decision, by a verdict; one that isn't listed is no.
+#[inline]
+pub fn decide_by_verdict(
     verdict: u32,
     rights_code: u32,
     request: &Request,
     clock: u64,
     table: &[u8],
 ) -> DecisionAnswer {
+    let is_yes = verdict == codes::ACCESS_ALLOWED;
+    let (rights, asked) = (rights(rights_code), asked(request));
+    decided(decision::decide_by_verdict(
+        is_yes, rights, &asked, clock, table,
+    ))
+}
+
+/// The request as the reference takes it: every value but 0 gives a root.
+#[inline]
+fn asked(request: &Request) -> decision::Request {
     let given = request.root_given != codes::ROOT_NONE;
-    let asked = decision::Request {
+    decision::Request {
         root: given.then_some(request.root.bytes),
         l0: request.l0,
         l1: request.l1,
         l2: request.l2,
-    };
-    let is_yes = verdict == codes::ACCESS_ALLOWED;
-    match decision::decide(is_yes, rights(rights_code), &asked, clock, table) {
+    }
+}
+
+#[inline]
+fn decided(answer: Result<decision::Answer, u32>) -> DecisionAnswer {
+    match answer {
         Ok(answer) => {
             let (granted, row) = match answer.row {
                 Row::Place(row) => (codes::GRANTED_ROW, row),

@@ -1,7 +1,7 @@
 //! Each operation of the built library against the reference; every refusal number that applies has to be met.
 
 use differential::operations::{
-    choice, decision, efskey, entry, envelope, list, reach, segment, time,
+    choice, decision, descriptor, efskey, entry, envelope, list, reach, segment, time,
 };
 
 #[test]
@@ -85,8 +85,18 @@ fn identifier_older() {
 }
 
 #[test]
+fn descriptor_check() {
+    descriptor::CHECK.check();
+}
+
+#[test]
 fn decide() {
     decision::DECIDE.check();
+}
+
+#[test]
+fn decide_by_verdict() {
+    decision::DECIDE_BY_VERDICT.check();
 }
 
 #[test]

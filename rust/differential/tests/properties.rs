@@ -1,11 +1,23 @@
-//! Properties of the built library: demand 3, round trips, the walk, a segment's blocks, public envelopes, the choice by the
+//! Properties of the built library: demand 3, the two decisions, round trips, the walk, a segment's blocks, public envelopes, the choice by the
 //! reach, the time rule.
 
-use differential::properties::{blocks, public, round_trips, serving, steps, waiting, walk};
+use differential::properties::{
+    blocks, described, public, round_trips, serving, steps, waiting, walk,
+};
 
 #[test]
 fn waiting_loses_nothing() {
     waiting::WAITING.check();
+}
+
+#[test]
+fn waiting_loses_nothing_by_verdict() {
+    waiting::WAITING_BY_VERDICT.check();
+}
+
+#[test]
+fn by_descriptor_and_by_verdict() {
+    described::DESCRIBED.check();
 }
 
 #[test]

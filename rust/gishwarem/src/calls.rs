@@ -161,7 +161,33 @@ pub(crate) fn identifier_older(at: raw::Identifier) -> raw::IdentifierAnswer {
     unsafe { raw::gw_identifier_older(at) }
 }
 
+pub(crate) fn descriptor_check(descriptor: &[u8]) -> u32 {
+    // SAFETY: pointer and length are a slice's.
+    unsafe { raw::gw_descriptor_check(descriptor.as_ptr(), descriptor.len()) }
+}
+
 pub(crate) fn decide(
+    descriptor: &[u8],
+    rights: u32,
+    request: raw::Request,
+    clock: u64,
+    table: &[u8],
+) -> raw::DecisionAnswer {
+    // SAFETY: each pointer and its length are a slice's; any values beside them get an answer.
+    unsafe {
+        raw::gw_decide(
+            descriptor.as_ptr(),
+            descriptor.len(),
+            rights,
+            request,
+            clock,
+            table.as_ptr(),
+            table.len(),
+        )
+    }
+}
+
+pub(crate) fn decide_by_verdict(
     verdict: u32,
     rights: u32,
     request: raw::Request,
@@ -169,7 +195,9 @@ pub(crate) fn decide(
     table: &[u8],
 ) -> raw::DecisionAnswer {
     // SAFETY: pointer and length are a slice's; any values beside them get an answer.
-    unsafe { raw::gw_decide(verdict, rights, request, clock, table.as_ptr(), table.len()) }
+    unsafe {
+        raw::gw_decide_by_verdict(verdict, rights, request, clock, table.as_ptr(), table.len())
+    }
 }
 
 pub(crate) fn choose(

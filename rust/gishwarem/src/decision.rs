@@ -7,14 +7,14 @@ use crate::{calls, raw, FileTime, Form, Gkid, Refusal, Request};
 /// The rights of a caller, the weakest first.
 ///
 /// ```
-/// use gishwarem::{decide, FileTime, Form, Refusal, Request, Rights};
+/// use gishwarem::{decide_by_verdict, FileTime, Form, Refusal, Request, Rights};
 ///
 /// assert!(Rights::None < Rights::Public && Rights::Public < Rights::Seed);
 ///
 /// // The latest key is asked for at (0, 0, 0).
 /// let form = |rights| {
 ///     let request = Request::latest(None);
-///     decide(true, rights, &request, FileTime(0), &[0; 32]).map(|answer| answer.form)
+///     decide_by_verdict(true, rights, &request, FileTime(0), &[0; 32]).map(|answer| answer.form)
 /// };
 /// assert_eq!(form(Rights::None), Err(Refusal::RightsTooLow));
 /// assert_eq!(form(Rights::Public), Ok(Form::Public));
@@ -41,7 +41,7 @@ impl Rights {
 /// The root key under which a key is granted.
 ///
 /// ```
-/// use gishwarem::{decide, FileTime, Request, Rights, Row};
+/// use gishwarem::{decide_by_verdict, FileTime, Request, Rights, Row};
 ///
 /// // Two rows, of which the second has the later use-start time, most significant byte first.
 /// let mut table = [0; 64];
@@ -49,7 +49,7 @@ impl Rights {
 ///
 /// let row = |table: &[u8]| {
 ///     let request = Request::latest(None);
-///     decide(true, Rights::Seed, &request, FileTime(0), table).map(|answer| answer.row)
+///     decide_by_verdict(true, Rights::Seed, &request, FileTime(0), table).map(|answer| answer.row)
 /// };
 /// assert_eq!(row(&table), Ok(Row::At(1)));
 /// assert_eq!(row(&[]), Ok(Row::Create));
@@ -76,11 +76,11 @@ impl Row {
 /// What a request is granted.
 ///
 /// ```
-/// use gishwarem::{decide, Answer, FileTime, Form, Gkid, Request, Rights, Row};
+/// use gishwarem::{decide_by_verdict, Answer, FileTime, Form, Gkid, Request, Rights, Row};
 ///
 /// // The latest key, at (5, 3, 7), under a root key that is yet to be created.
 /// let clock = FileTime(1_880_280_000_000_000);
-/// let answer = decide(true, Rights::Public, &Request::latest(None), clock, &[])?;
+/// let answer = decide_by_verdict(true, Rights::Public, &Request::latest(None), clock, &[])?;
 /// let at = Gkid { l0: 5, l1: 3, l2: 7 };
 /// assert_eq!(answer, Answer { at, form: Form::Public, row: Row::Create });
 /// # Ok::<(), gishwarem::Refusal>(())
@@ -95,16 +95,32 @@ pub struct Answer {
     pub row: Row,
 }
 
-/// Decides a request for a group key: by the verdict on the security descriptor, the caller's
-/// rights, the clock, and the root table.
+impl Answer {
+    /// What a decision grants, or its refusal.
+    fn from_answer(answer: &raw::DecisionAnswer) -> Result<Answer, Refusal> {
+        accepted(answer.refusal)?;
+        Ok(Answer {
+            at: answer.at.into(),
+            form: Form::from_code(answer.form),
+            row: Row::from_answer(answer),
+        })
+    }
+}
+
+/// Decides a request for a group key: by the security descriptor, the caller's rights, the clock,
+/// and the root table.
 ///
-/// A row of the table is 32 bytes: the root key identifier (16), the use-start time (8) and the
-/// create time (8), times with the most significant byte first. The checks run in this order:
-/// verdict, index out of range, mixed indices, later than now, rights, table length, no suitable
-/// root key.
+/// The descriptor is self-relative; one that [`check_descriptor`](crate::check_descriptor) does
+/// not find sound is refused. A row of the table is 32 bytes: the root key identifier (16), the
+/// use-start time (8) and the create time (8), times with the most significant byte first. The
+/// checks run in this order: descriptor, index out of range, mixed indices, later than now,
+/// rights, table length, no suitable root key.
 ///
 /// ```
 /// use gishwarem::{decide, Answer, FileTime, Form, Gkid, Refusal, Request, Rights, RootId, Row};
+///
+/// // The least sound descriptor: revision 1, the control bit 0x8000, and no item.
+/// let descriptor = [1, 0, 0, 0x80, 0, 0, 0, 0, 0, 0, 0, 0, 0, 0, 0, 0, 0, 0, 0, 0];
 ///
 /// let root = RootId([7; 16]);
 /// let mut table = [0; 32];
@@ -114,7 +130,7 @@ pub struct Answer {
 /// let clock = FileTime(1_880_280_000_000_000);
 /// let ask = |root, l0, l1, l2| {
 ///     let request = Request::named(root, l0, l1, l2);
-///     decide(true, Rights::Seed, &request, clock, &table)
+///     decide(&descriptor, Rights::Seed, &request, clock, &table)
 /// };
 ///
 /// // With a root key given, an earlier L0 group has its last key.
@@ -128,8 +144,43 @@ pub struct Answer {
 /// assert_eq!(ask(None, 4, 0, 2), Ok(granted));
 ///
 /// assert_eq!(ask(None, 5, 3, 8), Err(Refusal::LaterThanNow));
+///
+/// // Without its last byte, the descriptor is none.
+/// let request = Request::latest(None);
+/// let refused = decide(&descriptor[..19], Rights::Seed, &request, clock, &table);
+/// assert_eq!(refused, Err(Refusal::VerdictNo));
 /// ```
 pub fn decide(
+    descriptor: &[u8],
+    rights: Rights,
+    request: &Request,
+    clock: FileTime,
+    table: &[u8],
+) -> Result<Answer, Refusal> {
+    let request = (*request).into();
+    Answer::from_answer(&calls::decide(
+        descriptor,
+        rights.code(),
+        request,
+        clock.0,
+        table,
+    ))
+}
+
+/// The same with a verdict in place of the descriptor: what a record of past requests has of it.
+///
+/// ```
+/// use gishwarem::{decide_by_verdict, FileTime, Form, Refusal, Request, Rights};
+///
+/// let form = |verdict| {
+///     let request = Request::latest(None);
+///     decide_by_verdict(verdict, Rights::Public, &request, FileTime(0), &[])
+///         .map(|answer| answer.form)
+/// };
+/// assert_eq!(form(true), Ok(Form::Public));
+/// assert_eq!(form(false), Err(Refusal::VerdictNo));
+/// ```
+pub fn decide_by_verdict(
     verdict: bool,
     rights: Rights,
     request: &Request,
@@ -137,11 +188,11 @@ pub fn decide(
     table: &[u8],
 ) -> Result<Answer, Refusal> {
     let request = (*request).into();
-    let answer = calls::decide(verdict.into(), rights.code(), request, clock.0, table);
-    accepted(answer.refusal)?;
-    Ok(Answer {
-        at: answer.at.into(),
-        form: Form::from_code(answer.form),
-        row: Row::from_answer(&answer),
-    })
+    Answer::from_answer(&calls::decide_by_verdict(
+        verdict.into(),
+        rights.code(),
+        request,
+        clock.0,
+        table,
+    ))
 }

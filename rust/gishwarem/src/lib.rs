@@ -1,5 +1,5 @@
-//! Key records and data segment headers of encrypted files, group key envelopes and the GetKey
-//! decision.
+//! Key records and data segment headers of encrypted files, group key envelopes, and the GetKey
+//! decision with its check of the security descriptor.
 //!
 //! Each function makes one call into the library and lays its answer out: a refusal is an `Err`,
 //! and a part is a slice of the caller's own bytes. Nothing is kept between calls, nothing is
@@ -13,7 +13,8 @@
 //! | Data Segment Encryption Header (MS-EFSR 2.2.3.3) | [`Segment`] |
 //! | Group Key Envelope (MS-GKDI 2.2.4) | [`Envelope`] |
 //! | time and identifiers | [`FileTime`], [`Gkid`], [`RootId`] |
-//! | the GetKey decision (MS-GKDI 3.1.4.1) | [`decide`] |
+//! | security descriptor (MS-DTYP 2.4.6) | [`check_descriptor`] |
+//! | the GetKey decision (MS-GKDI 3.1.4.1) | [`decide`]; by a verdict, [`decide_by_verdict`] |
 //! | what keys reach | [`Reach`] |
 //! | a cached and a fetched envelope | [`serving_key`] |
 //!
@@ -27,10 +28,13 @@
 //! let mut table = [0; 32];
 //! table[..16].copy_from_slice(&root.0);
 //!
+//! // The least sound security descriptor: revision 1, the control bit 0x8000, and no item.
+//! let descriptor = [1, 0, 0, 0x80, 0, 0, 0, 0, 0, 0, 0, 0, 0, 0, 0, 0, 0, 0, 0, 0];
+//!
 //! // In L0 group 5, (5, 0, 0) is asked for at (5, 3, 7): the answer is now's key, in both parts.
 //! let request = Request::named(Some(root), 5, 0, 0);
 //! let clock = FileTime(1_880_280_000_000_000);
-//! let answer = decide(true, Rights::Seed, &request, clock, &table)?;
+//! let answer = decide(&descriptor, Rights::Seed, &request, clock, &table)?;
 //! assert_eq!(answer.at, Gkid { l0: 5, l1: 3, l2: 7 });
 //! assert_eq!(answer.form, Form::Both);
 //!
@@ -47,6 +51,7 @@ mod answer;
 #[allow(unsafe_code)]
 mod calls;
 mod decision;
+mod descriptor;
 mod efskey;
 mod entry;
 mod envelope;
@@ -64,7 +69,8 @@ mod serving;
 mod time;
 mod walk;
 
-pub use decision::{decide, Answer, Rights, Row};
+pub use decision::{decide, decide_by_verdict, Answer, Rights, Row};
+pub use descriptor::{check_descriptor, DescriptorPart};
 pub use efskey::{EfsKey, SidHint};
 pub use entry::{Algorithm, Entry};
 pub use envelope::{Bodies, Envelope, Head};

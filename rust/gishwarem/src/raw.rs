@@ -1,5 +1,6 @@
 //! The C face as `include/gishwarem.h` declares it: structs by value, the refusal's number first, zeros beside a refusal (but
-//! for the index of a list's entry and the place that a step was asked at).
+//! for the index of a list's entry and the place that a step was asked at). The check of a descriptor answers a code alone, and
+//! that is no refusal's number.
 //!
 //! Nothing checks these declarations against the library but the tests; the sizes are those that the header asserts.
 //!
@@ -12,7 +13,7 @@
 pub mod codes;
 
 /// The version of the header that these declarations follow.
-pub const VERSION: u32 = 3;
+pub const VERSION: u32 = 4;
 
 /// A part of the caller's bytes. Both are 0 beside a refusal, at the end of a list, and with `SID_NONE`; an absent body of an
 /// envelope, and the sizes of no block, have length 0 at their place in the layout.
@@ -412,8 +413,20 @@ extern "C" {
     pub fn gw_identifier_start(at: Identifier) -> StartAnswer;
     /// The next older identifier of the same L0 group; (L0, 0, 0) has none.
     pub fn gw_identifier_older(at: Identifier) -> IdentifierAnswer;
-    /// The GetKey decision.
+    /// Whether bytes are a sound self-relative security descriptor: 0, or the code of the part that fails first.
+    pub fn gw_descriptor_check(descriptor: *const u8, len: usize) -> u32;
+    /// The GetKey decision, by the security descriptor.
     pub fn gw_decide(
+        descriptor: *const u8,
+        descriptor_len: usize,
+        rights: u32,
+        request: Request,
+        clock: u64,
+        table: *const u8,
+        table_len: usize,
+    ) -> DecisionAnswer;
+    /// The GetKey decision, by a verdict in place of the descriptor.
+    pub fn gw_decide_by_verdict(
         verdict: u32,
         rights: u32,
         request: Request,

@@ -47,7 +47,7 @@ pub enum Refusal {
     IndexOutOfRange = 14,
     /// Requested indices mix -1 with others.
     MixedIndices = 15,
-    /// Descriptor verdict is no.
+    /// Security descriptor not sound, or the verdict on it no.
     VerdictNo = 16,
     /// Request later than now.
     LaterThanNow = 17,
@@ -151,7 +151,7 @@ impl Refusal {
             Refusal::NoRoom => "output buffer shorter than the record",
             Refusal::IndexOutOfRange => "requested index out of range",
             Refusal::MixedIndices => "requested indices mix -1 with others",
-            Refusal::VerdictNo => "descriptor verdict is no",
+            Refusal::VerdictNo => "security descriptor not sound, or the verdict on it no",
             Refusal::LaterThanNow => "request later than now",
             Refusal::RightsTooLow => "rights too low",
             Refusal::NoRootKey => "no suitable root key",

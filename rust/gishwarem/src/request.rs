@@ -8,11 +8,11 @@ use crate::{raw, RootId};
 /// Any numbers make a request; [`decide`](crate::decide) judges them.
 ///
 /// ```
-/// use gishwarem::{decide, FileTime, Refusal, Request, Rights};
+/// use gishwarem::{decide_by_verdict, FileTime, Refusal, Request, Rights};
 ///
 /// let ask = |l0, l1, l2| {
 ///     let request = Request { root: None, l0, l1, l2 };
-///     decide(true, Rights::Seed, &request, FileTime(0), &[]).map(|answer| answer.at)
+///     decide_by_verdict(true, Rights::Seed, &request, FileTime(0), &[]).map(|answer| answer.at)
 /// };
 /// assert_eq!(ask(0, 0, 32), Err(Refusal::IndexOutOfRange));
 /// assert_eq!(ask(0, -1, 0), Err(Refusal::MixedIndices));

@@ -6,7 +6,7 @@ use crate::raw;
 /// No GUID byte order is applied.
 ///
 /// ```
-/// use gishwarem::{decide, FileTime, Refusal, Request, Rights, RootId, Row};
+/// use gishwarem::{decide_by_verdict, FileTime, Refusal, Request, Rights, RootId, Row};
 ///
 /// // A table of two rows, under the identifiers 1, 1, .. and 2, 2, ..
 /// let mut table = [0; 64];
@@ -15,7 +15,7 @@ use crate::raw;
 ///
 /// let ask = |root| {
 ///     let request = Request::latest(Some(root));
-///     decide(true, Rights::Seed, &request, FileTime(0), &table)
+///     decide_by_verdict(true, Rights::Seed, &request, FileTime(0), &table)
 /// };
 /// assert_eq!(ask(RootId([2; 16])).map(|answer| answer.row), Ok(Row::At(1)));
 /// assert_eq!(ask(RootId([3; 16])), Err(Refusal::NoRootKey));

@@ -2,8 +2,9 @@
 //! the promises of its reader.
 
 use gishwarem::{
-    Bodies, EfsKey, Entry, Envelope, Gkid, Head, List, ListEntry, ListRefusal, Reach, Segment,
-    SegmentHead, Walk,
+    check_descriptor, decide, Bodies, DescriptorPart, EfsKey, Entry, Envelope, FileTime, Gkid,
+    Head, List, ListEntry, ListRefusal, Reach, Refusal, Request, Rights, Segment, SegmentHead,
+    Walk,
 };
 
 /// Hands on each beginning of a record, and the record with each of its bytes changed in turn.
@@ -202,4 +203,37 @@ fn a_reach_is_refused_as_its_envelope_is() {
             assert_eq!(reach.total, bits);
         }
     });
+}
+
+/// Another implementation's, 60 bytes: the owner at 48, and the DACL at 20 with one entry.
+const DESCRIPTOR: &[u8] = include_bytes!("../../../crates/vectors_descriptors/stdin");
+
+#[test]
+fn a_request_is_refused_16_where_its_descriptor_is_not_sound() {
+    each_edit(DESCRIPTOR, |bytes| {
+        let request = Request::latest(None);
+        let refused = decide(bytes, Rights::Seed, &request, FileTime(0), &[]).err();
+        assert_eq!(refused.is_some(), check_descriptor(bytes).is_err());
+        assert!(refused.is_none() || refused == Some(Refusal::VerdictNo));
+    });
+}
+
+/// Each byte turned over: those of the revision, the control's bit, the four offsets, the SID's revision and count, the
+/// ACL's size and count and its entry's size fail their part, and all others may be anything.
+#[test]
+fn a_changed_byte_fails_its_part() {
+    assert_eq!(check_descriptor(DESCRIPTOR), Ok(()));
+    for at in 0..60 {
+        let mut bytes = DESCRIPTOR.to_vec();
+        bytes[at] ^= 0xFF;
+        let failed = match at {
+            0 | 3 => Some(DescriptorPart::Head),
+            4..=7 | 48 | 49 => Some(DescriptorPart::Owner),
+            8..=11 => Some(DescriptorPart::Group),
+            12..=15 => Some(DescriptorPart::Sacl),
+            16..=19 | 22..=25 | 30 | 31 => Some(DescriptorPart::Dacl),
+            _ => None,
+        };
+        assert_eq!(check_descriptor(&bytes).err(), failed, "byte {at}");
+    }
 }

@@ -2,6 +2,7 @@
 
 use std::cmp::Reverse;
 
+use crate::descriptor;
 use crate::reach::Form;
 use crate::time::{self, Gkid, MAX_INDEX};
 
@@ -55,9 +56,21 @@ pub enum Row {
     Create,
 }
 
-/// Decides on a request, with the descriptor's verdict, the caller's rights, the
+/// Decides on a request, with the security descriptor, the caller's rights, the
 /// clock and the root table.
 pub fn decide(
+    descriptor: &[u8],
+    rights: Rights,
+    request: &Request,
+    clock: u64,
+    table: &[u8],
+) -> Result<Answer, u32> {
+    let verdict = descriptor::check(descriptor).is_ok();
+    decide_by_verdict(verdict, rights, request, clock, table)
+}
+
+/// Decides on a request, with a verdict in place of the descriptor.
+pub fn decide_by_verdict(
     verdict: bool,
     rights: Rights,
     request: &Request,
@@ -206,6 +219,14 @@ mod tests {
     /// The bench's now, (5,3,7).
     const NOW: u64 = 1_880_280_000_000_000;
 
+    /// The least sound descriptor.
+    const SOUND: [u8; 20] = {
+        let mut head = [0; 20];
+        head[0] = 1;
+        head[3] = 0x80;
+        head
+    };
+
     const ROOT: [u8; 16] = [0xA1; 16];
     const OTHER: [u8; 16] = [0xB2; 16];
 
@@ -233,7 +254,7 @@ mod tests {
 
     /// Seed rights at NOW.
     fn seed(request: Request, table: &[u8]) -> Result<Answer, u32> {
-        decide(true, Rights::Seed, &request, NOW, table)
+        decide(&SOUND, Rights::Seed, &request, NOW, table)
     }
 
     fn answer(at: Gkid, form: Form, row: Row) -> Result<Answer, u32> {
@@ -318,7 +339,7 @@ mod tests {
             assert!(seed(request(None, l0, l1, l2), &table).is_ok());
         }
         // The latest is never later, even at the first reading.
-        let first = decide(true, Rights::Seed, &latest(None), 0, &table);
+        let first = decide(&SOUND, Rights::Seed, &latest(None), 0, &table);
         assert_eq!(first, answer(id(0, 0, 0), Form::L2Only, Row::Place(0)));
     }
 
@@ -329,11 +350,11 @@ mod tests {
             let latest = latest(root);
             let named = request(root, 5, 3, 7);
             for asked in [latest, named] {
-                assert_eq!(decide(true, Rights::None, &asked, NOW, &table), Err(18));
+                assert_eq!(decide(&SOUND, Rights::None, &asked, NOW, &table), Err(18));
             }
-            assert_eq!(decide(true, Rights::Public, &named, NOW, &table), Err(18));
+            assert_eq!(decide(&SOUND, Rights::Public, &named, NOW, &table), Err(18));
             assert_eq!(
-                decide(true, Rights::Public, &latest, NOW, &table),
+                decide(&SOUND, Rights::Public, &latest, NOW, &table),
                 answer(id(5, 3, 7), Form::Public, Row::Place(0))
             );
         }
@@ -344,19 +365,30 @@ mod tests {
         let broken = [0; 1];
         let named = |l0, l1, l2| request(Some(ROOT), l0, l1, l2);
         let no = Rights::None;
-        assert_eq!(decide(false, no, &named(0, -1, 32), NOW, &broken), Err(16));
-        assert_eq!(decide(true, no, &named(0, -1, 32), NOW, &broken), Err(14));
-        assert_eq!(decide(true, no, &named(9, -1, 0), NOW, &broken), Err(15));
-        assert_eq!(decide(true, no, &named(9, 0, 0), NOW, &broken), Err(17));
-        assert_eq!(decide(true, no, &named(5, 0, 0), NOW, &broken), Err(18));
+        assert_eq!(decide(&[], no, &named(0, -1, 32), NOW, &broken), Err(16));
+        assert_eq!(decide(&SOUND, no, &named(0, -1, 32), NOW, &broken), Err(14));
+        assert_eq!(decide(&SOUND, no, &named(9, -1, 0), NOW, &broken), Err(15));
+        assert_eq!(decide(&SOUND, no, &named(9, 0, 0), NOW, &broken), Err(17));
+        assert_eq!(decide(&SOUND, no, &named(5, 0, 0), NOW, &broken), Err(18));
         assert_eq!(seed(named(5, 0, 0), &broken), Err(20));
         assert_eq!(seed(named(5, 0, 0), &[]), Err(19));
-        // The verdict alone.
+        // The descriptor alone.
         let table = table(&[(ROOT, 0, 0)]);
         assert_eq!(
-            decide(false, Rights::Seed, &latest(None), NOW, &table),
+            decide(&[], Rights::Seed, &latest(None), NOW, &table),
             Err(16)
         );
+    }
+
+    #[test]
+    fn a_verdict_in_place_of_the_descriptor() {
+        let table = table(&[(ROOT, 0, 0)]);
+        for asked in [latest(None), request(None, 4, 0, 2), request(None, 9, 0, 0)] {
+            let by_verdict =
+                |verdict| decide_by_verdict(verdict, Rights::Seed, &asked, NOW, &table);
+            assert_eq!(by_verdict(true), seed(asked, &table));
+            assert_eq!(by_verdict(false), Err(16));
+        }
     }
 
     #[test]
@@ -393,7 +425,7 @@ mod tests {
         }
         // The last reading.
         assert_eq!(
-            decide(true, Rights::Seed, &latest(None), u64::MAX, &table),
+            decide(&SOUND, Rights::Seed, &latest(None), u64::MAX, &table),
             answer(id(50_039, 31, 27), Form::Both, place)
         );
     }
@@ -403,7 +435,7 @@ mod tests {
         let at = id(5, 3, 7);
         assert_eq!(seed(latest(None), &[]), answer(at, Form::Both, Row::Create));
         assert_eq!(
-            decide(true, Rights::Public, &latest(None), NOW, &[]),
+            decide(&SOUND, Rights::Public, &latest(None), NOW, &[]),
             answer(at, Form::Public, Row::Create)
         );
         assert_eq!(seed(latest(Some(ROOT)), &[]), Err(19));

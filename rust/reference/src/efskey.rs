@@ -1,5 +1,6 @@
 //! The EfsKey (MS-GPEF 2.2.1.2.2; document 01, "EfsKey"; document 02, No. 2).
 
+use crate::sid::is_sid;
 use crate::{put_u32, record_length, u32_at, Part, MAX_LENGTH};
 
 /// The length of the fixed head.
@@ -85,17 +86,6 @@ pub fn read(bytes: &[u8]) -> Result<EfsKey, u32> {
 
     // Reserved2, from 24 to 32, is ignored.
     Ok(EfsKey { sid, certificate })
-}
-
-/// Whether the bytes are one SID (MS-DTYP 2.4.2): revision 1, a count c of at
-/// most 15, and a size of 8+4c.
-fn is_sid(bytes: &[u8]) -> bool {
-    if bytes.len() < 8 {
-        return false;
-    }
-    let revision = bytes[0];
-    let count = bytes[1];
-    revision == 1 && count <= 15 && bytes.len() == 8 + 4 * usize::from(count)
 }
 
 /// Whether the bytes give no hint (document 02, No. 2): at least one, and all

@@ -1,9 +1,10 @@
-//! A plain implementation of document 01 and of document 02's No. 1 and No. 2:
+//! A plain implementation of document 01 and of document 02's No. 1 to No. 5:
 //! readers and writers for the Key List Entry (MS-EFSR 2.2.2.1.2), the EfsKey
 //! (MS-GPEF 2.2.1.2.2), the Data Segment Encryption Header (MS-EFSR 2.2.3.3)
 //! and the Group Key Envelope (MS-GKDI 2.2.4), a reader for a list of entries,
-//! the GetKey decision (MS-GKDI 3.1.4.1), the reach of an envelope and the
-//! choice between a cached and a fetched one.
+//! the GetKey decision (MS-GKDI 3.1.4.1) with its check of the security
+//! descriptor (MS-DTYP 2.4.6), the reach of an envelope and the choice between a
+//! cached and a fetched one.
 //!
 //! A refusal is the number that the documents give it, as a `u32`. The checks
 //! run in the order given there per record, and the first that applies is the
@@ -14,12 +15,14 @@
 
 pub mod choice;
 pub mod decision;
+pub mod descriptor;
 pub mod efskey;
 pub mod entry;
 pub mod envelope;
 pub mod list;
 pub mod reach;
 pub mod segment;
+mod sid;
 pub mod time;
 
 /// A part of a record: where it stands and how long it is.
@@ -40,6 +43,11 @@ impl Part {
 
 /// The longest record or list; a longer one is refused with 1.
 pub(crate) const MAX_LENGTH: usize = 65_535;
+
+/// The 16-bit number at `at`, little-endian.
+pub(crate) fn u16_at(bytes: &[u8], at: usize) -> u16 {
+    u16::from_le_bytes([bytes[at], bytes[at + 1]])
+}
 
 /// The record number at `at`: 32-bit, unsigned, little-endian.
 pub(crate) fn u32_at(bytes: &[u8], at: usize) -> u32 {

@@ -1,6 +1,6 @@
 //! The Data Segment Encryption Header (MS-EFSR 2.2.3.3; document 02, No. 1).
 
-use crate::{put_u32, u32_at, Part, MAX_LENGTH};
+use crate::{put_u32, u16_at, u32_at, Part, MAX_LENGTH};
 
 /// The length of the fixed head; the block sizes stand from here on.
 const HEAD: usize = 28;
@@ -95,7 +95,7 @@ fn judge(bytes: &[u8]) -> Result<(Head, Part), u32> {
     }
     let sizes = Part {
         at: HEAD,
-        len: SIZE * usize::from(u16::from_le_bytes([bytes[26], bytes[27]])),
+        len: SIZE * usize::from(u16_at(bytes, 26)),
     };
     if u32_at(bytes, 8) as usize != bytes.len() || bytes.len() < HEAD + sizes.len {
         return Err(3);

@@ -4,6 +4,7 @@ use std::fmt;
 
 use gishwarem::raw::{codes, Identifier, Request, Root};
 
+use super::descriptor;
 use super::envelope::root;
 use super::identifier::{self, of_step, STEP};
 use super::{code, junk, Kind};
@@ -20,8 +21,11 @@ const MOST_ROWS: usize = 64;
 const INDICES: [i32; 10] = [-1, -2, 0, 1, 30, 31, 32, 33, i32::MIN, i32::MAX];
 
 /// A question to the decision.
+#[derive(Clone)]
 pub struct Question {
-    /// The verdict's code.
+    /// The descriptor, where that is asked by.
+    pub descriptor: Vec<u8>,
+    /// The verdict's code, where that is asked by.
     pub verdict: u32,
     /// The rights' code.
     pub rights: u32,
@@ -37,7 +41,8 @@ impl fmt::Debug for Question {
     fn fmt(&self, out: &mut fmt::Formatter<'_>) -> fmt::Result {
         write!(
             out,
-            "verdict {}, rights {}, {:?}, clock {}, table {:?}",
+            "descriptor {:?}, verdict {}, rights {}, {:?}, clock {}, table {:?}",
+            Hex(&self.descriptor),
             self.verdict,
             self.rights,
             self.request,
@@ -67,6 +72,7 @@ pub fn question(rng: &mut Rng, kind: Kind) -> Question {
             question
         }
         Kind::Junk => Question {
+            descriptor: any_descriptor(rng),
             verdict: code(rng, &[1]),
             rights: code(rng, &[1, 2, 2, 2]),
             request: Request {
@@ -80,6 +86,22 @@ pub fn question(rng: &mut Rng, kind: Kind) -> Question {
             table: junk(rng),
         },
     }
+}
+
+/// A sound descriptor, mostly the least.
+fn sound_descriptor(rng: &mut Rng) -> Vec<u8> {
+    if rng.chance(4) {
+        return descriptor::bytes(rng, Kind::Valid);
+    }
+    descriptor::LEAST.to_vec()
+}
+
+/// A descriptor beside other junk: at times junk itself, so that what is behind it is met too.
+fn any_descriptor(rng: &mut Rng) -> Vec<u8> {
+    if rng.chance(4) {
+        return descriptor::bytes(rng, Kind::Junk);
+    }
+    sound_descriptor(rng)
 }
 
 /// A clock reading, now as an L2 step, and a step up to now, mostly near it.
@@ -111,6 +133,7 @@ fn valid(rng: &mut Rng) -> Question {
         rows[suits].use_start = rng.pick(&[0, named * STEP]);
     }
     Question {
+        descriptor: sound_descriptor(rng),
         verdict: codes::ACCESS_ALLOWED,
         rights: if latest {
             rng.pick(&[codes::RIGHTS_PUBLIC, codes::RIGHTS_SEED])
@@ -197,7 +220,10 @@ fn table(rows: &[Row]) -> Vec<u8> {
 fn move_one(rng: &mut Rng, question: &mut Question) {
     let request = &mut question.request;
     match rng.below(16) {
-        0 => question.verdict = code(rng, &[0, 1]),
+        0 => {
+            question.descriptor = descriptor::bytes(rng, Kind::Moved);
+            question.verdict = code(rng, &[0, 1]);
+        }
         1 => question.rights = code(rng, &[0, 1, 2]),
         2 => request.root_given = code(rng, &[0, 1]),
         3 => request.root = root(rng),

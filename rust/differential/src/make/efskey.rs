@@ -22,7 +22,7 @@ const NUMBERS: [usize; 6] = [0, 4, 8, 12, 16, 20];
 const SID_OFFSET: usize = 8;
 
 /// A SID's length without its parts.
-const SID: usize = 8;
+pub const SID: usize = 8;
 
 /// Numbers of zeros: three that a SID has for its length, and three that none has.
 const ZEROS: [usize; 6] = [8, 12, 68, 1, 7, 9];
@@ -102,8 +102,8 @@ fn zeros(rng: &mut Rng, spare: usize) -> Vec<u8> {
     vec![0; rng.pick(&[turn, any, spare])]
 }
 
-/// A SID of at most `spare` bytes; at times all that isn't judged is zeros.
-fn sid(rng: &mut Rng, spare: usize) -> Vec<u8> {
+/// A SID of at most `spare` bytes, at least 8; at times all that isn't judged is zeros.
+pub fn sid(rng: &mut Rng, spare: usize) -> Vec<u8> {
     let most = ((spare - SID) / 4).min(15);
     let any = rng.below(most + 1);
     let count = rng.pick(&[0, any, most]);

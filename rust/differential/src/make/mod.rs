@@ -2,6 +2,7 @@
 
 pub mod choice;
 pub mod decision;
+pub mod descriptor;
 pub mod efskey;
 pub mod entry;
 pub mod envelope;

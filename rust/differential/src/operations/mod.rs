@@ -2,6 +2,7 @@
 
 pub mod choice;
 pub mod decision;
+pub mod descriptor;
 pub mod efskey;
 pub mod entry;
 pub mod envelope;
@@ -24,7 +25,7 @@ use crate::subject::Subject;
 use crate::tally::Tally;
 
 /// Every operation.
-pub const ALL: [Subject; 18] = [
+pub const ALL: [Subject; 20] = [
     entry::READ,
     entry::WRITE,
     list::JUDGE,
@@ -41,7 +42,9 @@ pub const ALL: [Subject; 18] = [
     time::IDENTIFIER,
     time::START,
     time::OLDER,
+    descriptor::CHECK,
     decision::DECIDE,
+    decision::DECIDE_BY_VERDICT,
     choice::CHOOSE,
 ];
 
@@ -64,6 +67,13 @@ macro_rules! answers {
 answers! {
     ChoiceAnswer DecisionAnswer EfsKeyAnswer EntryAnswer EnvelopeAnswer IdentifierAnswer
     ListAnswer ReachAnswer SegmentAnswer SizeAnswer StartAnswer StepAnswer WrittenAnswer
+}
+
+/// The check of a descriptor answers the part's number alone; 0 is sound.
+impl Answer for u32 {
+    fn refusal(&self) -> u32 {
+        *self
+    }
 }
 
 /// One input, as a difference is told.

@@ -2,6 +2,7 @@
 //! asked.
 
 pub mod blocks;
+pub mod described;
 pub mod public;
 pub mod round_trips;
 pub mod serving;
@@ -14,8 +15,10 @@ use gishwarem::raw::{Identifier, Part};
 use crate::subject::Subject;
 
 /// Every property.
-pub const ALL: [Subject; 13] = [
+pub const ALL: [Subject; 15] = [
     waiting::WAITING,
+    waiting::WAITING_BY_VERDICT,
+    described::DESCRIBED,
     round_trips::ENTRY,
     round_trips::EFSKEY_WRITTEN,
     round_trips::EFSKEY_READ,

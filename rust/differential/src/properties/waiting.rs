@@ -6,44 +6,53 @@ use gishwarem::raw::{codes, DecisionAnswer, Identifier, Request};
 
 use super::has_bit;
 use crate::ask;
-use crate::make::decision;
+use crate::make::decision::{self, Question};
 use crate::make::identifier::STEP;
 use crate::rng::Rng;
 use crate::subject::Subject;
 use crate::tally::Tally;
 
-/// The demand, asked twice.
+/// The demand, asked twice with one descriptor.
 pub const WAITING: Subject = Subject {
     name: "waiting loses nothing",
-    run: wait,
-    refusals: &[14, 15, 16, 17, 18, 19, 20],
-    events: &[
-        "named",
-        "latest",
-        "CREATE",
-        "public then seed",
-        "now moved on",
-        "granted moved on",
-    ],
+    run: |rng, tally| wait(rng, tally, ask::decide),
+    refusals: REFUSALS,
+    events: EVENTS,
 };
 
-fn wait(rng: &mut Rng, tally: &mut Tally) {
+/// The demand, asked twice with one verdict.
+pub const WAITING_BY_VERDICT: Subject = Subject {
+    name: "waiting loses nothing, by verdict",
+    run: |rng, tally| wait(rng, tally, ask::decide_by_verdict),
+    refusals: REFUSALS,
+    events: EVENTS,
+};
+
+/// The refusals of a first asking.
+const REFUSALS: &[u32] = &[14, 15, 16, 17, 18, 19, 20];
+
+/// What has to be met, either way.
+const EVENTS: &[&str] = &[
+    "named",
+    "latest",
+    "CREATE",
+    "public then seed",
+    "now moved on",
+    "granted moved on",
+];
+
+fn wait(rng: &mut Rng, tally: &mut Tally, decide: fn(&mut Rng, &Question) -> DecisionAnswer) {
     let kind = tally.kind(rng);
     let question = decision::question(rng, kind);
     let later = later(rng, question.clock);
     let more = more_rights(rng, question.rights);
-    let mut decide = |rights, clock| {
-        ask::decide(
-            rng,
-            question.verdict,
-            rights,
-            question.request,
-            clock,
-            &question.table,
-        )
+    let again = Question {
+        clock: later,
+        rights: more,
+        ..question.clone()
     };
-    let first = decide(question.rights, question.clock);
-    let second = decide(more, later);
+    let first = decide(rng, &question);
+    let second = decide(rng, &again);
     tally.answer(first.refusal);
     if first.refusal != 0 {
         return;

@@ -42,6 +42,19 @@ pub const ACCESS_DENIED: u32 = 0;
 /// The verdict yes.
 pub const ACCESS_ALLOWED: u32 = 1;
 
+/// A sound descriptor.
+pub const DESCRIPTOR_SOUND: u32 = 0;
+/// The head of a descriptor fails.
+pub const DESCRIPTOR_HEAD: u32 = 1;
+/// The owner of a descriptor fails.
+pub const DESCRIPTOR_OWNER: u32 = 2;
+/// The group of a descriptor fails.
+pub const DESCRIPTOR_GROUP: u32 = 3;
+/// The system list of a descriptor fails.
+pub const DESCRIPTOR_SACL: u32 = 4;
+/// The discretionary list of a descriptor fails.
+pub const DESCRIPTOR_DACL: u32 = 5;
+
 /// No root key is named.
 pub const ROOT_NONE: u32 = 0;
 /// A root key is named.

@@ -1,7 +1,7 @@
 -- `rest`: the whole of what is left.
 use Rattle.lemmas.proofs.Basics.{_-_, _≤_, arith, sym, length, drop, length-drop, drop-of-length-le, take-all, needs}
-use Rattle.cases.proofs.rest.Statement.{statement}
-use Rattle.cases.proofs.rest.Tie as tie
+use Rattle.wire.proofs.rest.Statement.{statement}
+use Rattle.wire.proofs.rest.Tie as tie
 
 returns : tie.Need-returns
 returns c =

@@ -1,0 +1,12 @@
+-- `gw_decide_by_verdict`: what it calls ensures it.
+use Rattle.lemmas.proofs.Basics.{needs}
+use Rattle.gishwarem.proofs.decisions.gw_decide_by_verdict.Statement.{statement}
+use Rattle.gishwarem.proofs.decisions.gw_decide_by_verdict.Tie as tie
+
+returns : tie.Need-returns
+returns c = rw (c .decision-answer .ensures, c .before .decide-by-verdict .ensures, c .before .before .request-from .ensures, c .before .before .before .rights-from .ensures)
+
+pub gw-decide-by-verdict-spec : {M : Type 1} → statement M
+gw-decide-by-verdict-spec = tie.close (tie.spec
+    (λ c κs. search needs) (λ c κs. search needs) (λ c κs. search needs) (λ c κs. search needs)
+    returns)
