@@ -1,5 +1,5 @@
 -- Items that stand at the start of bytes: exactly when the bytes begin with one.
-use Rattle.lemmas.proofs.Basics.{ℕ, zero, suc, _+_, _-_, _≤_, _<_, arith, true, false, List, _++_, _≡_, refl, sym, ap, subst, _∙_, leb, length, take, drop, length-append, length-drop, length-take-le, take-at, take-append-drop, drop-drop, drop-append-seam, le-leb, leb-true}
+use Rattle.lemmas.proofs.Basics.{ℕ, zero, suc, _+_, _-_, _≤_, _<_, arith, true, false, List, _++_, _≡_, refl, sym, ap, subst, _∙_, leb, length, take, drop, length-append, length-take-le, take-at, take-append-drop, drop-append-seam, le-leb, leb-true}
 use Rattle.lemmas.specs.Beginning.{Begins}
 use Rattle.lemmas.proofs.Cases.{both-true, true-and}
 use Rattle.wire.specs.Numbers.{leOf}
@@ -57,14 +57,10 @@ unfolding entriesFit
 stops zero t h e = absurd (omega arith)
 stops (suc n) t h e = rw e
 
-pub goes-on : (n at told : ℕ) (t : List ℕ) → at ≤ length t → 0 < n → told ≡ toldSize (drop at t) → startsSized 4 (drop at t) ≡ true
-    → (at + told ≤ length t) × (entriesFit (n - 1) (drop (at + told) t) ≡ entriesFit n (drop at t))
+pub goes-on : (n : ℕ) (t : List ℕ) → 0 < n → startsSized 4 t ≡ true → entriesFit (n - 1) (drop (toldSize t) t) ≡ entriesFit n t
 unfolding entriesFit
-goes-on zero at told t inside h size e = absurd (omega arith)
-goes-on (suc n) at told t inside h size e =
-    let long : toldSize (drop at t) ≤ length t - at = rw (← length-drop at t) (sized-begins 4 (drop at t) (omega arith) e .0) in
-    let less : suc n - 1 ≡ n = omega arith in
-    (omega arith, rw (less, e, size, drop-drop (toldSize (drop at t)) at t))
+goes-on zero t h e = absurd (omega arith)
+goes-on (suc n) t h e = let less : suc n - 1 ≡ n = omega arith in rw (less, e)
 
 -- an ACL
 pub acl-begins : (t : List ℕ) → startsAcl t ≡ true → Begins Acl t

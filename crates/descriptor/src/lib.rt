@@ -2,7 +2,7 @@
 // judged: other control bits, reserved fields, types, sizes that are no multiple of 4, and bytes that no item covers may be anything.
 ghost use mathlib.Core.Path.{_≡_};
 ghost use Rattle.sid.specs.Rule.{startsSid};
-ghost use Rattle.descriptor.specs.Checking.{startsSized, entriesFit, startsAcl, names, headSound, findingOf, findingNumber, isSound};
+ghost use Rattle.descriptor.specs.Checking.{entriesFit, startsAcl, names, headSound, findingOf, findingNumber, isSound};
 use records::LIMIT;
 use sid::starts_sid;
 use wire::Span;
@@ -106,37 +106,35 @@ fn names_acl(s: &[u8], at: u32) -> bool
     starts_acl(rest(s, at as usize))
 }
 
-// An ACL: its entries are those behind its 8 bytes, inside its own size.
+// An ACL: at least its head's 8 bytes and inside; its entries are those behind the head, inside its own size.
 fn starts_acl(t: &[u8]) -> bool
     ensures { λ r. ⌜ r ≡ startsAcl (now (t .entry)) ⌝ }
 {
-    if !starts_sized(8, t) {
+    let len = le16_at(t, 2) as usize;
+    if len < 8 {
         return false;
     }
-    let len = le16_at(t, 2) as usize;
+    if len > t.len() {
+        return false;
+    }
     entries_fit(le16_at(t, 4), rest(part(t, Span { at: 0, len }), 8))
 }
 
-// An item that tells its own size, of an ACL or an entry: not below its head's, and inside.
-fn starts_sized(least: usize, t: &[u8]) -> bool
-    ensures { λ r. ⌜ r ≡ startsSized least (now (t .entry)) ⌝ }
-{
-    let size = le16_at(t, 2) as usize;
-    (least <= size) & (size <= t.len())
-}
-
-// As many entries as counted, end to end.
+// As many entries as counted, end to end: each is passed, and those behind it are left.
 fn entries_fit(count: u16, t: &[u8]) -> bool
     ensures { λ r. ⌜ r ≡ entriesFit count (now (t .entry)) ⌝ }
 {
-    let mut at = 0;
+    let mut entries = t;
     let mut left = count;
     while left > 0 {
-        let entry = rest(t, at);
-        if !starts_sized(4, entry) {
+        let size = le16_at(entries, 2) as usize;
+        if size < 4 {
             return false;
         }
-        at += le16_at(entry, 2) as usize;
+        if size > entries.len() {
+            return false;
+        }
+        entries = &entries[size..];
         left -= 1;
     }
     true

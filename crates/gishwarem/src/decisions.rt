@@ -29,13 +29,13 @@ pub extern "C" fn gw_decide(
 ) -> DecisionAnswer
     ensures { λ r. ⌜ r ≡ decisionAnswer (decision (now (descriptor .entry)) (rightsFrom rights) (requestFrom asked) (record { 0 = clock }) (now (table .entry))) ⌝ }
 {
-    decision_answer(getkey::decide(
-        descriptor,
-        rights_from(rights),
-        request_from(asked),
-        FileTime(clock),
+    decided(
+        descriptor::is_sound(descriptor),
+        rights,
+        asked,
+        clock,
         table,
-    ))
+    )
 }
 
 // A verdict that is not 1 is no.
@@ -49,8 +49,21 @@ pub extern "C" fn gw_decide_by_verdict(
 ) -> DecisionAnswer
     ensures { λ r. ⌜ r ≡ decisionAnswer (decisionByVerdict (eqb verdict 1) (rightsFrom rights) (requestFrom asked) (record { 0 = clock }) (now (table .entry))) ⌝ }
 {
+    decided(verdict == 1, rights, asked, clock, table)
+}
+
+// Both come here, so that the decision and its layout are one function, and the answer is written once.
+fn decided(
+    verdict: bool,
+    rights: u32,
+    asked: RequestIndices,
+    clock: u64,
+    table: &[u8],
+) -> DecisionAnswer
+    ensures { λ r. ⌜ r ≡ decisionAnswer (decisionByVerdict verdict (rightsFrom rights) (requestFrom asked) (record { 0 = clock }) (now (table .entry))) ⌝ }
+{
     decision_answer(getkey::decide_by_verdict(
-        verdict == 1,
+        verdict,
         rights_from(rights),
         request_from(asked),
         FileTime(clock),

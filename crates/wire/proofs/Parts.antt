@@ -1,5 +1,5 @@
 -- Laws of parts: those that lie inside, those that do not, parts of what was put together, and parts that follow each other.
-use Rattle.lemmas.proofs.Basics.{ℕ, zero, suc, _+_, _-_, _≤_, _<_, arith, cond, List, [], _∷_, _++_, append-assoc, _≡_, refl, sym, ap, _∙_, leb, length, getD, take, drop, length-append, length-drop, length-take-le, take-at, take-add, take-length, take-append-le, drop-at, drop-drop, drop-append-le, drop-append-seam, le-leb, lt-leb, leb-true, leb-false}
+use Rattle.lemmas.proofs.Basics.{ℕ, zero, suc, _+_, _-_, _≤_, _<_, arith, cond, List, [], _∷_, _++_, append-assoc, _≡_, refl, sym, ap, _∙_, leb, length, getD, take, drop, length-append, length-drop, length-take-le, take-at, take-all, take-add, take-length, take-append-le, drop-at, drop-drop, drop-append-le, drop-append-seam, le-leb, lt-leb, leb-true, leb-false}
 use Rattle.lemmas.proofs.Cases.{by-cases, leb-same}
 use Rattle.wire.specs.declared.Span.{Span}
 use Rattle.wire.specs.Parts.{partOf, startOf, joined}
@@ -81,6 +81,11 @@ part-within s at len i n h k =
 
 pub part-whole : (s : List ℕ) → partOf s 0 (length s) ≡ s
 part-whole s = part-in s 0 (length s) (omega arith) ∙ take-length s
+
+-- From a place on, all that is left.
+pub rest-whole : (s : List ℕ) (at : ℕ) → take (length s - at) (drop at s) ≡ drop at s
+rest-whole s at = let long : length (drop at s) ≤ length s - at = rw length-drop (omega arith) in
+    take-all (length s - at) (drop at s) long
 
 -- A record is the pieces before its k-th, that one, and those after.
 pub joined-split : (pieces : List (List ℕ)) (k : ℕ) → joined pieces ≡ joined (take k pieces) ++ (getD pieces k [] ++ joined (drop (suc k) pieces))

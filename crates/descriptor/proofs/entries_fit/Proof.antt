@@ -1,57 +1,53 @@
 -- `entries_fit`: what is left to be passed comes to the same as the whole.
-use Rattle.lemmas.proofs.Basics.{_+_, _-_, _≤_, arith, _≡_, refl, sym, ap, _∙_, length, drop, needs, not-true}
-use Rattle.lemmas.proofs.Cases.{not-false}
-use Rattle.descriptor.specs.Layout.{toldSize}
+use Rattle.lemmas.proofs.Basics.{_-_, arith, true, _≡_, refl, sym, ap, _∙_, length, drop, needs, le-leb, lt-leb}
+use Rattle.wire.proofs.Parts.{rest-whole}
 use Rattle.descriptor.specs.Checking.{startsSized, entriesFit}
 use Rattle.descriptor.proofs.Items.{stops, goes-on}
 use Rattle.descriptor.proofs.entries_fit.Statement.{statement}
 use Rattle.descriptor.proofs.entries_fit.Tie as tie
 
 abbrev Inv-loop : tie.InvT-loop
-Inv-loop count t at₀ left₀ at left = (at ≤ length t) × (entriesFit left (drop at t) ≡ entriesFit count t)
+Inv-loop count t entries₀ left₀ entries left = entriesFit left entries ≡ entriesFit count t
 
 abbrev μ-loop : tie.MeasureT-loop
-μ-loop count t at₀ left₀ at left = left
+μ-loop count t entries₀ left₀ entries left = left
 
 returns : tie.Need-returns Inv-loop μ-loop
-returns c =
-    let r = c .before .before in
-    let l = r .before .before in
-    sym (stops (l .loop .left) _ (omega arith) (ap (startsSized 4) (sym (r .rest .ensures)) ∙ sym (c .before .starts-sized .ensures) ∙ not-true _ (c .if1 .taken))) ∙ l .loop .inv .1
-
--- a turn
-passed : (c : tie.After-le16-at Inv-loop μ-loop) → let l = c .before .before .before .before .before in
-    let t = l .before .before .args .t .now in
-    (l .loop .at + c .le16-at .result ≤ length t) × (entriesFit (l .loop .left - 1) (drop (l .loop .at + c .le16-at .result) t) ≡ entriesFit (l .loop .left) (drop (l .loop .at) t))
-passed c =
-    let s = c .before .before in
-    let r = s .before in
-    let l = r .before .before in
-    goes-on (l .loop .left) (l .loop .at) (c .le16-at .result) _ (l .loop .inv .0) (omega arith)
-    (c .le16-at .ensures ∙ ap toldSize (r .rest .ensures))
-    (ap (startsSized 4) (sym (r .rest .ensures)) ∙ sym (s .starts-sized .ensures) ∙ not-false _ (c .before .if1 .left))
-
-loop-again : tie.Need-loop-again Inv-loop μ-loop
-loop-again c = (passed c .0, passed c .1 ∙ c .before .before .before .before .before .loop .inv .1)
+unfolding startsSized
+returns c = let l = c .before .before .before in
+    sym (stops (l .loop .left) _ (omega arith) (rw (← c .before .le16-at .ensures, lt-leb 4 (c .before .le16-at .result) (omega arith)))) ∙ l .loop .inv
 
 returns-2 : tie.Need-returns-2 Inv-loop μ-loop
+unfolding startsSized
+returns-2 c = let r = c .before .before in
+    let l = r .before .before in
+    sym (stops (l .loop .left) _ (omega arith) (rw (← r .le16-at .ensures, le-leb 4 (r .le16-at .result) (omega arith), lt-leb (r .le16-at .result) (length (l .loop .entries .now)) (omega arith)))) ∙ l .loop .inv
+
+loop-again : tie.Need-loop-again Inv-loop μ-loop
+unfolding startsSized
+loop-again c =
+    let r = c .before .before .before in
+    let l = r .before .before in
+    let sized : startsSized 4 (l .loop .entries .now) ≡ true = rw (← r .le16-at .ensures, le-leb 4 (r .le16-at .result) (omega arith), le-leb (r .le16-at .result) (length (l .loop .entries .now)) (omega arith)) in
+    ap (entriesFit (l .loop .left - 1)) (rest-whole (l .loop .entries .now) (r .le16-at .result) ∙ ap (λ n. drop n (l .loop .entries .now)) (r .le16-at .ensures))
+    ∙ goes-on (l .loop .left) (l .loop .entries .now) (omega arith) sized ∙ l .loop .inv
+
+returns-3 : tie.Need-returns-3 Inv-loop μ-loop
 unfolding entriesFit
-returns-2 c =
-    let l = c .before in
+returns-3 c = let l = c .before in
     let all : l .loop .left ≡ 0 = omega arith in
-    rw all at (l .loop .inv .1)
+    rw all at (l .loop .inv)
 
 pub entries-fit-spec : {M : Type 1} → statement M
 entries-fit-spec = tie.close (tie.spec
     Inv-loop
     μ-loop
-    (λ c. (omega arith, refl))
-    (λ c κs. search needs) (λ c κs. search needs)
+    (λ c. refl)
+    (λ c κs. search needs) (λ c. search needs)
     returns
-    (λ c κs. search needs)
-    (λ c. search needs)
-    (λ c. let inside = passed c .0 in search needs)
+    returns-2
+    (λ c. omega arith) (λ c. omega arith) (λ c. omega arith)
     (λ c. search needs)
     (λ c. omega arith)
     loop-again
-    returns-2)
+    returns-3)

@@ -4,9 +4,7 @@ use Rattle.gishwarem.proofs.decisions.gw_decide_by_verdict.Statement.{s
 use Rattle.gishwarem.proofs.decisions.gw_decide_by_verdict.Tie as tie
 
 returns : tie.Need-returns
-returns c = rw (c .decision-answer .ensures, c .before .decide-by-verdict .ensures, c .before .before .request-from .ensures, c .before .before .before .rights-from .ensures)
+returns c = c .decided .ensures
 
 pub gw-decide-by-verdict-spec : {M : Type 1} → statement M
-gw-decide-by-verdict-spec = tie.close (tie.spec
-    (λ c κs. search needs) (λ c κs. search needs) (λ c κs. search needs) (λ c κs. search needs)
-    returns)
+gw-decide-by-verdict-spec = tie.close (tie.spec (λ c κs. search needs) returns)
