@@ -38,13 +38,14 @@ impl Finding {
     }
 }
 
+// What the decision asks: no part fails.
 pub fn is_sound(s: &[u8]) -> bool
     ensures { λ r. ⌜ r ≡ isSound (now (s .entry)) ⌝ }
 {
     check(s).number() == 0
 }
 
-// Each ACL is passed over once.
+// Head, owner, group, SACL, DACL, in the standard's order. Each ACL is passed over once.
 pub fn check(s: &[u8]) -> Finding
     ensures { λ r. ⌜ r ≡ findingOf (now (s .entry)) ⌝ }
 {
@@ -66,7 +67,7 @@ pub fn check(s: &[u8]) -> Finding
     Finding::Sound
 }
 
-// Length, revision, and the control bit 0x8000.
+// At most 65,535 bytes, a head of 20, revision 1, and the control bit 0x8000.
 fn has_sound_head(s: &[u8]) -> bool
     ensures { λ r. ⌜ r ≡ headSound (now (s .entry)) ⌝ }
 {
@@ -82,6 +83,7 @@ fn has_sound_head(s: &[u8]) -> bool
     le16_at(s, 2) / 32768 % 2 == 1
 }
 
+// Owner and group: an offset is 0, or at least 20 with a SID inside the descriptor.
 fn names_sid(s: &[u8], at: u32) -> bool
     ensures { λ r. ⌜ r ≡ names startsSid (now (s .entry)) at ⌝ }
 {
@@ -94,6 +96,7 @@ fn names_sid(s: &[u8], at: u32) -> bool
     starts_sid(rest(s, at as usize))
 }
 
+// SACL and DACL: likewise, with an ACL.
 fn names_acl(s: &[u8], at: u32) -> bool
     ensures { λ r. ⌜ r ≡ names startsAcl (now (s .entry)) at ⌝ }
 {
