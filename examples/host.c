@@ -56,13 +56,44 @@ static void print_root(gw_root root)
         printf("%02x", (unsigned)root.bytes[i]);
 }
 
-/* A text of an envelope: 16-bit units, the lower byte first, the last of them zero. What is not printable ASCII is `?`. */
+/* A 16-bit unit of a text, the lower byte first. */
+static uint32_t unit_at(const uint8_t *text)
+{
+    return text[0] | (uint32_t)text[1] << 8;
+}
+
+/* A character as UTF-8; one that would move a console is `?`. */
+static void print_character(uint32_t c)
+{
+    if (c < 0x20 || (c >= 0x7f && c < 0xa0)) {
+        putchar('?');
+    } else if (c < 0x80) {
+        putchar((int)c);
+    } else if (c < 0x800) {
+        printf("%c%c", (int)(0xc0 | c >> 6), (int)(0x80 | (c & 0x3f)));
+    } else if (c < 0x10000) {
+        printf("%c%c%c", (int)(0xe0 | c >> 12), (int)(0x80 | (c >> 6 & 0x3f)), (int)(0x80 | (c & 0x3f)));
+    } else {
+        printf("%c%c%c%c", (int)(0xf0 | c >> 18), (int)(0x80 | (c >> 12 & 0x3f)), (int)(0x80 | (c >> 6 & 0x3f)),
+               (int)(0x80 | (c & 0x3f)));
+    }
+}
+
+/* A text of an accepted envelope, up to its terminator. It is sound UTF-16: behind a high surrogate stands a low one, so that
+ * neither has to be looked for. */
 static void print_text(const uint8_t *text, size_t len)
 {
     size_t i;
 
-    for (i = 0; i + 2 < len; i += 2)
-        putchar(text[i + 1] == 0 && text[i] >= 0x20 && text[i] <= 0x7e ? text[i] : '?');
+    for (i = 0; i + 2 < len; i += 2) {
+        uint32_t c = unit_at(text + i);
+
+        if (c >= 0xd800 && c <= 0xdbff) {
+            i += 2;
+            c = 0x10000 + ((c - 0xd800) << 10) + (unit_at(text + i) - 0xdc00);
+        }
+        print_character(c);
+    }
 }
 
 static const char *form_word(uint32_t form)

@@ -28,7 +28,7 @@ extern "C" {
  * 3: a public envelope at L2 index 31 with a key of its public key length, which was refused with 11, is accepted and written.
  * 4: gw_decide takes the security descriptor's bytes, a pointer and a length, in place of the verdict on it. What it was stands
  * under the name gw_decide_by_verdict. */
-#define GW_VERSION 4u
+#define GW_VERSION 5u
 
 /* Refusal numbers. */
 #define GW_ACCEPTED 0u            /* not refused */
@@ -55,6 +55,7 @@ extern "C" {
 #define GW_START_PAST_TIME 21u    /* identifier's start time exceeds 64 bits */
 #define GW_BYTES_LEFT 22u         /* bytes left after the last list entry */
 #define GW_NEITHER_SERVES 23u     /* neither envelope serves */
+#define GW_UNPAIRED_SURROGATE 24u /* text with an unpaired surrogate */
 #define GW_WRONG_SHIFTS 25u       /* chunk and data unit shift differ, or a shift is over 31 */
 
 /* Algorithms of an entry's FEK. */
@@ -207,14 +208,15 @@ typedef struct gw_head {
     uint32_t public_length;  /* public key length */
 } gw_head;
 
-/* The bodies of a Group Key Envelope, in their order. */
+/* The bodies of a Group Key Envelope, in their order. A text of an accepted envelope is 16-bit units, the lower byte first: sound
+ * UTF-16, so that it converts to characters without loss, and a terminator, which is its one zero unit. */
 typedef struct gw_bodies {
-    gw_part kdf;                  /* KDF algorithm */
+    gw_part kdf;                  /* KDF algorithm, a text */
     gw_part kdf_parameters;       /* KDF parameters */
-    gw_part agreement;            /* secret agreement algorithm */
+    gw_part agreement;            /* secret agreement algorithm, a text */
     gw_part agreement_parameters; /* secret agreement parameters */
-    gw_part domain;               /* domain name */
-    gw_part forest;               /* forest name */
+    gw_part domain;               /* domain name, a text */
+    gw_part forest;               /* forest name, a text */
     gw_part l1_key;               /* L1 key; a public envelope has none */
     gw_part l2_key;               /* L2 key, or the public key of a public envelope */
 } gw_bodies;
@@ -313,10 +315,11 @@ gw_written_answer gw_segment_write(uint8_t *out, size_t room, uint64_t start_off
                                    uint32_t bytes_in_vdl, uint32_t unit_shift, uint32_t chunk_shift,
                                    uint32_t cluster_shift, const uint32_t *sizes, size_t blocks);
 
-/* Reads a Group Key Envelope. */
+/* Reads a Group Key Envelope. Refused 1, 2, 4, 5, 3, then 10 and 24 of each text in body order, then 11. */
 gw_envelope_answer gw_envelope_read(const uint8_t *envelope, size_t len);
 
-/* Writes a Group Key Envelope at the start of `out`; a refusal changes no byte of it. */
+/* Writes a Group Key Envelope at the start of `out`. Refused 1, 5, then 10 and 24 of each text in body order, 11, 13; a refusal
+ * changes no byte of `out`. */
 gw_written_answer gw_envelope_write(uint8_t *out, size_t room, gw_head head, const uint8_t *kdf, size_t kdf_len,
                                     const uint8_t *kdf_parameters, size_t kdf_parameters_len, const uint8_t *agreement,
                                     size_t agreement_len, const uint8_t *agreement_parameters,
@@ -385,6 +388,7 @@ static inline const char *gw_refusal_text(uint32_t number)
     case GW_START_PAST_TIME: return "identifier's start time exceeds 64 bits";
     case GW_BYTES_LEFT: return "bytes left after the last list entry";
     case GW_NEITHER_SERVES: return "neither envelope serves";
+    case GW_UNPAIRED_SURROGATE: return "text with an unpaired surrogate";
     case GW_WRONG_SHIFTS: return "chunk and data unit shift differ, or a shift is over 31";
     default: return "no such refusal number";
     }

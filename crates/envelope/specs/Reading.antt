@@ -31,7 +31,7 @@ bodyAt s which = partOf s (bodySpan (bodiesOf (lengthsOf s)) which .at) (bodySpa
 unfoldable pub headChecks : List ℕ → List Check
 headChecks s = (ltb 65535 (length s) ⇒ TooLong) ∷ (ltb (length s) 80 ⇒ Short) ∷ (not (eqb (leAt 4 s 4) (leOf mark)) ⇒ WrongMark) ∷ []
 
--- the rule of a text, for the four texts in body order
+-- the rule of a text, for the four texts in body order: what it refuses of one comes before the next
 unfoldable pub fourTexts : List ℕ → List ℕ → List ℕ → List ℕ → List Check
 fourTexts kdf agreement domain forest = textChecks kdf ++ textChecks agreement ++ textChecks domain ++ textChecks forest
 
@@ -40,7 +40,7 @@ unfoldable pub bodyChecks : Head → List ℕ → List ℕ → List ℕ → List
 bodyChecks h kdf agreement domain forest l1Len l2Len =
     fourTexts kdf agreement domain forest ++ keyChecks (isPublic (h .flags)) (h .at) (h .«public_length») l1Len l2Len
 
--- 5; 3 unless 80 plus the eight body lengths is the record's length; 10 and 11 for the bodies
+-- 5; 3 unless 80 plus the eight body lengths is the record's length; 10 and 24 for each text, then 11, for the bodies
 unfoldable pub layoutChecks : List ℕ → List Check
 layoutChecks s =
     (indexAbove31 (headOf s .at) ⇒ IndexAbove31)

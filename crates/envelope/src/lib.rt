@@ -425,7 +425,7 @@ pub fn write(
     Written::Length(len)
 }
 
-// What the reader would say of the bytes: of its refusals only 1, 5, 10 and 11 can occur.
+// What the reader would say of the bytes: of its refusals only 1, 5, 10, 24 and 11 can occur.
 fn judge_given(
     head: Head,
     kdf: &[u8],

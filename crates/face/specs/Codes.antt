@@ -7,7 +7,7 @@ use Rattle.keys.specs.declared.Form.the-variants.{Keyless, L1Only, L2Only, Both
 
 -- the version of the C face, raised where an answer or a signature of it changes
 abbrev pub faceVersion : ℕ
-faceVersion = 4
+faceVersion = 5
 
 unfoldable pub formCode : Form → ℕ
 formCode Keyless = 0

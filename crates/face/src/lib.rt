@@ -13,7 +13,7 @@ use rootid::RootId;
 use wire::Span;
 
 // The version of the C face, raised where an answer or a signature of it changes. The header has the same number.
-pub const VERSION: u32 = 4;
+pub const VERSION: u32 = 5;
 
 // A place in the caller's own bytes.
 #[repr(C)]

@@ -47,6 +47,12 @@ both-true false b e = absurd (false≢true e)
 pub true-and : {a b : Bool} → a ≡ true → b ≡ true → a && b ≡ true
 true-and p q = rw (p, q)
 
+-- two tests of which each holds where the other does
+pub same-truth : (a b : Bool) → (a ≡ true → b ≡ true) → (b ≡ true → a ≡ true) → a ≡ b
+same-truth true b there back = sym (there refl)
+same-truth false true there back = back refl
+same-truth false false there back = refl
+
 -- two tests of orders that hold together and fail together
 pub leb-same : (a b c d : ℕ) → (a ≤ b → c ≤ d) → (b < a → d < c) → leb a b ≡ leb c d
 leb-same a b c d holds fails =

@@ -4,7 +4,7 @@ ghost use mathlib.Core.Path.{_≡_};
 ghost use Rattle.refusal.specs.Number.{numberOf, outcomeNumber};
 ghost use Rattle.refusal.specs.Chain.{goesOn, refuseIf};
 
-// Document 01, "Refusal numbers": a variant for each row of the table, in its order. Document 02 adds rows, No. 1 the row 25.
+// Document 01, "Refusal numbers": a variant for each row of the table, in its order. Document 02 adds rows, No. 1 the row 25 and No. 6 the row 24.
 pub enum Refusal {
     // 1: record or list longer than 65,535 bytes
     TooLong,
@@ -52,6 +52,8 @@ pub enum Refusal {
     BytesLeft,
     // 23: neither envelope serves
     NeitherServes,
+    // 24: text with an unpaired surrogate
+    UnpairedSurrogate,
     // 25: chunk and data unit shift differ, or a shift is over 31
     WrongShifts,
 }
@@ -84,6 +86,7 @@ impl Refusal {
             Refusal::StartPastTime => 21,
             Refusal::BytesLeft => 22,
             Refusal::NeitherServes => 23,
+            Refusal::UnpairedSurrogate => 24,
             Refusal::WrongShifts => 25,
         }
     }

@@ -1,13 +1,13 @@
 -- Laws of the blocks: a size read from its own four bytes, one block more that is counted, the count by the sizes as they are asked
 -- for, and what follows the sizes.
-use Rattle.lemmas.proofs.Basics.{ℕ, _+_, _-_, _*_, _^_, _≤_, _<_, arith, add-zero, add-one, add-sub-cancel-left, Bool, false, cond, List, _++_, _≡_, refl, sym, ap, ap₂, _∙_, ltb, length, take, drop, length-append, lt-ltb, le-ltb, ltb-true}
+use Rattle.lemmas.proofs.Basics.{ℕ, _+_, _-_, _*_, _^_, _≤_, _<_, arith, add-zero, add-one, Bool, false, cond, List, _++_, _≡_, refl, sym, ap, ap₂, _∙_, ltb, length, take, drop, length-append, lt-ltb, le-ltb, ltb-true}
 use Rattle.lemmas.proofs.Cases.{by-cases}
 use Rattle.lemmas.specs.Counting.{bit, count}
 use Rattle.lemmas.proofs.Counting.{count-is, count-parts, count-none}
 use Rattle.refusal.specs.Chain.{firstOf, unlessRefused}
 use Rattle.wire.specs.Numbers.{leOf}
-use Rattle.wire.specs.Parts.{leAt, partOf}
-use Rattle.wire.proofs.Parts.{part-in, part-left, part-within}
+use Rattle.wire.specs.Parts.{leAt}
+use Rattle.wire.proofs.Parts.{part-left, number-within}
 use Rattle.segment.specs.declared.Segment.{Segment}
 use Rattle.segment.specs.declared.SegmentRead.the-variants.{Accepted, Refused}
 use Rattle.segment.specs.declared.SizeRead.{SizeRead}
@@ -17,10 +17,8 @@ use Rattle.segment.specs.Reading.{segmentChecks, shown, segmentOf, sizeO
 use Rattle.segment.proofs.Reading.{accepted-shown}
 
 pub size-in : (s : List ℕ) (k : ℕ) → 28 + 4 * k + 4 ≤ length s → leAt 4 (take (28 + 4 * k + 4 - (28 + 4 * k)) (drop (28 + 4 * k) s)) 0 ≡ sizeAt s k
-unfolding leAt sizeAt
-size-in s k inside =
-    let bytes : take (28 + 4 * k + 4 - (28 + 4 * k)) (drop (28 + 4 * k) s) ≡ partOf s (28 + 4 * k) 4 = rw add-sub-cancel-left (sym (part-in s (28 + 4 * k) 4 inside)) in
-    ap (λ t. leOf (partOf t 0 4)) bytes ∙ ap leOf (part-within s (28 + 4 * k) 4 0 4 inside (omega arith) ∙ rw add-zero)
+unfolding sizeAt
+size-in s k inside = number-within 4 s (28 + 4 * k) 4 0 inside (omega arith) ∙ ap (leAt 4 s) (add-zero (28 + 4 * k))
 
 pub one-larger : (unit k : ℕ) (size : ℕ → ℕ) {x : ℕ} → x ≡ size k → unit < x → largerThan unit k size + 1 ≡ largerThan unit (k + 1) size
 unfolding count bit

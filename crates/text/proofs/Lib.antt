@@ -1,2 +1,5 @@
-pub mod Texts
+pub mod Units
+pub mod Pairs
 pub mod ExactlyWhen
+pub mod Texts
+pub mod Conversion

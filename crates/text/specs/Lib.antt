@@ -1,2 +1,4 @@
+pub mod Units
 pub mod Text
 pub mod WellFormed
+pub mod Conversion

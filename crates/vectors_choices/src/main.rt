@@ -21,6 +21,9 @@ struct Held {
     l2: u32,
     l1_key: u32,
     l2_key: u32,
+    // The length of its KDF algorithm, and its first unit.
+    kdf: u32,
+    unit: u32,
 }
 
 fn main() {
@@ -29,6 +32,7 @@ fn main() {
     neither();
     keyless();
     public_at_31();
+    half_a_pair();
 }
 
 fn cached() {
@@ -188,6 +192,37 @@ fn public_at_31() {
     choice(b"choice: cached public at L2 31: ", at_31, seed, 5, 3, 31);
 }
 
+// Document 02, No. 6: an envelope with an unpaired surrogate in a text serves nothing: the other one, or neither.
+fn half_a_pair() {
+    let own = both(3, 7);
+    let broken = surrogate(own);
+    choice(
+        b"choice: half a pair in the cached one: ",
+        broken,
+        own,
+        5,
+        3,
+        7,
+    );
+    choice(
+        b"choice: half a pair in the fetched one: ",
+        own,
+        broken,
+        5,
+        3,
+        7,
+    );
+    choice(
+        b"choice: half a pair in the cached one alone: ",
+        broken,
+        none(),
+        5,
+        3,
+        7,
+    );
+    choice(b"choice: half a pair in both: ", broken, broken, 5, 3, 7);
+}
+
 // A seed envelope with keys of these lengths.
 fn alone(l1: u32, l2: u32, l1_key: u32, l2_key: u32) -> Held {
     Held {
@@ -198,6 +233,8 @@ fn alone(l1: u32, l2: u32, l1_key: u32, l2_key: u32) -> Held {
         l2,
         l1_key,
         l2_key,
+        kdf: 2,
+        unit: 0,
     }
 }
 
@@ -222,6 +259,14 @@ fn cut(mut held: Held) -> Held {
     held
 }
 
+// With the high surrogate D83D before the KDF algorithm's terminator.
+fn surrogate(mut held: Held) -> Held {
+    held.len = 218;
+    held.kdf = 4;
+    held.unit = 0xD83D;
+    held
+}
+
 fn other_root(mut held: Held) -> Held {
     held.root = 3;
     held
@@ -238,16 +283,18 @@ fn put(s: &mut [u8], held: Held, mark: u8) {
         s,
         [0, MARK, held.flags, 5, held.l1, held.l2],
         &root,
-        [2, 0, 2, 0, 0, 64, held.l1_key, held.l2_key, 2, 2],
+        [held.kdf, 0, 2, 0, 0, 64, held.l1_key, held.l2_key, 2, 2],
     );
-    cases::numbers(s, 88, &[mark as u32 + 1]);
-    cases::numbers(s, 88 + held.l1_key as usize, &[mark as u32 + 2]);
+    cases::numbers(s, 80, &[held.unit]);
+    let keys = 86 + held.kdf as usize;
+    cases::numbers(s, keys, &[mark as u32 + 1]);
+    cases::numbers(s, keys + held.l1_key as usize, &[mark as u32 + 2]);
 }
 
 // The choice for the identifier (l0, l1, l2) under the root whose low half is 2.
 fn choice(name: &[u8], cached: Held, fetched: Held, l0: u32, l1: u32, l2: u32) {
-    let mut a = [0; 216];
-    let mut b = [0; 216];
+    let mut a = [0; 218];
+    let mut b = [0; 218];
     put(&mut a, cached, 10);
     put(&mut b, fetched, 20);
     let wanted = Gkid {

@@ -3,11 +3,13 @@
 mod heads;
 mod key_lengths;
 mod reader;
+mod surrogates;
 mod texts;
 
 fn main() {
     heads::run();
     texts::run();
+    surrogates::run();
     key_lengths::run();
     heads::orders();
 }

@@ -10,8 +10,14 @@ pub const TEXTS: [u32; 10] = [2, 0, 2, 0, 0, 0, 0, 0, 2, 2];
 
 // An envelope of len bytes with this head, whose bodies are zeros.
 pub fn headed(name: &[u8], len: usize, front: [u32; 6], lengths: [u32; 10]) {
+    spelt(name, len, front, lengths, b"");
+}
+
+// The same, whose bodies begin with these bytes.
+pub fn spelt(name: &[u8], len: usize, front: [u32; 6], lengths: [u32; 10], bodies: &[u8]) {
     let mut s = io::large_buffer();
     cases::envelope(&mut s, front, b"", lengths);
+    cases::bytes(&mut s, 80, bodies);
     told(name, cases::first(&s, len));
 }
 

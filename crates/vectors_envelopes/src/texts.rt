@@ -1,6 +1,6 @@
 // The four texts.
 use crate::reader::FRONT;
-use crate::reader::told;
+use crate::reader::spelt;
 
 pub fn run() {
     accepted();
@@ -56,11 +56,10 @@ fn worded(
 ) {
     let before = 80 + kdf as usize + kdf_parameters as usize;
     let len = before + agreement as usize + agreement_parameters as usize + 4;
-    let mut s = io::large_buffer();
-    cases::envelope(
-        &mut s,
+    spelt(
+        name,
+        len,
         FRONT,
-        b"",
         [
             kdf,
             kdf_parameters,
@@ -73,7 +72,6 @@ fn worded(
             2,
             2,
         ],
+        bodies,
     );
-    cases::bytes(&mut s, 80, bodies);
-    told(name, cases::first(&s, len));
 }

@@ -1,5 +1,6 @@
 // Document 01, "Group Key Envelope": envelopes written, and one with all that it shows. Each case is a line: its name, then what the
 // library answers. The file `stdout` beside src/ holds what the paper says.
+mod surrogates;
 mod views;
 mod writer;
 
@@ -9,6 +10,7 @@ use wire::Span;
 fn main() {
     views::run();
     writer::run();
+    surrogates::run();
 }
 
 // A finished line, on standard output.

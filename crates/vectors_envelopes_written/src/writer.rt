@@ -154,17 +154,22 @@ fn written(
 ) -> Line {
     if room <= out.len() {
         let answer = write_into(&mut out[0..room], head, kdf, kdf_parameters, l1_key, l2_key);
-        let told = words::written(line, answer);
-        if let Written::Length(len) = answer {
-            return kept(
-                envline::shown(told.text(b" "), cases::first(out, len)),
-                out,
-                len,
-            );
-        }
-        return kept(told, out, 0);
+        return shown(line, answer, out);
     }
     line
+}
+
+// The answer; the record that was written, as it reads back; and whether the output behind it, or all of it on a refusal, is as it was.
+pub fn shown(line: Line, answer: Written, out: &[u8]) -> Line {
+    let told = words::written(line, answer);
+    if let Written::Length(len) = answer {
+        return kept(
+            envline::shown(told.text(b" "), cases::first(out, len)),
+            out,
+            len,
+        );
+    }
+    kept(told, out, 0)
 }
 
 fn write_into(
@@ -198,7 +203,7 @@ fn kept(line: Line, out: &[u8], len: usize) -> Line {
     cases::kept(line.text(b" "), &before, out, len)
 }
 
-fn head_at(flags: u32, l1: u32, l2: u32, public_length: u32) -> Head {
+pub fn head_at(flags: u32, l1: u32, l2: u32, public_length: u32) -> Head {
     Head {
         version: 1,
         flags,

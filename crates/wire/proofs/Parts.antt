@@ -1,8 +1,9 @@
 -- Laws of parts: those that lie inside, those that do not, parts of what was put together, and parts that follow each other.
-use Rattle.lemmas.proofs.Basics.{ℕ, zero, suc, _+_, _-_, _≤_, _<_, arith, cond, List, [], _∷_, _++_, append-assoc, _≡_, refl, sym, ap, _∙_, leb, length, getD, take, drop, length-append, length-drop, length-take-le, take-at, take-all, take-add, take-length, take-append-le, drop-at, drop-drop, drop-append-le, drop-append-seam, le-leb, lt-leb, leb-true, leb-false}
+use Rattle.lemmas.proofs.Basics.{ℕ, zero, suc, _+_, _-_, _≤_, _<_, arith, add-sub-cancel-left, cond, List, [], _∷_, _++_, append-assoc, _≡_, refl, sym, ap, _∙_, leb, length, getD, take, drop, length-append, length-drop, length-take-le, take-at, take-all, take-add, take-length, take-append-le, drop-at, drop-drop, drop-append-le, drop-append-seam, le-leb, lt-leb, leb-true, leb-false}
 use Rattle.lemmas.proofs.Cases.{by-cases, leb-same}
 use Rattle.wire.specs.declared.Span.{Span}
-use Rattle.wire.specs.Parts.{partOf, startOf, joined}
+use Rattle.wire.specs.Numbers.{leOf}
+use Rattle.wire.specs.Parts.{partOf, startOf, joined, leAt}
 
 pub part-in : (s : List ℕ) (at len : ℕ) → at + len ≤ length s → partOf s at len ≡ take len (drop at s)
 unfolding partOf
@@ -78,6 +79,14 @@ part-within s at len i n h k =
     in
     rw split
     (part-piece (partOf s at i) (partOf s (at + i) n) (partOf s (at + i + n) (len - (i + n))) i n (length-part s at i first) (length-part s (at + i) n both))
+
+-- A slice that is taken from the whole is the part there, and a number in it the number there.
+pub slice-part : (s : List ℕ) (at len : ℕ) → at + len ≤ length s → take (at + len - at) (drop at s) ≡ partOf s at len
+slice-part s at len inside = rw add-sub-cancel-left (sym (part-in s at len inside))
+
+pub number-within : (w : ℕ) (s : List ℕ) (at len i : ℕ) → at + len ≤ length s → i + w ≤ len → leAt w (take (at + len - at) (drop at s)) i ≡ leAt w s (at + i)
+unfolding leAt
+number-within w s at len i inside held = ap (λ t. leOf (partOf t i w)) (slice-part s at len inside) ∙ ap leOf (part-within s at len i w inside held)
 
 pub part-whole : (s : List ℕ) → partOf s 0 (length s) ≡ s
 part-whole s = part-in s 0 (length s) (omega arith) ∙ take-length s

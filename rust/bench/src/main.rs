@@ -14,7 +14,7 @@ use operations::{
     identifier_start, list_judge, list_walk, segment_read, segment_size, segment_write,
     time_identifier, Asked, Output,
 };
-use records as make;
+use records::{self as make, Letters};
 use sides::{Meter, Row, Series};
 
 fn row<F>(operation: &'static str, input: &str, found: F) -> Row<F> {
@@ -25,9 +25,24 @@ fn row<F>(operation: &'static str, input: &str, found: F) -> Row<F> {
     }
 }
 
-/// An envelope with four texts of `units` units.
+/// An envelope with four texts of `units` units, all ASCII.
 fn envelope(units: usize) -> Vec<u8> {
-    make::envelope(&make::bodies(units))
+    make::envelope(&make::bodies(Letters::Ascii, units))
+}
+
+/// The same with pairs of surrogates.
+fn pairs(units: usize) -> Vec<u8> {
+    make::envelope(&make::bodies(Letters::Pairs, units))
+}
+
+/// A sound envelope of pairs but for the first unit of its first text, a low surrogate, which is refused 24.
+fn half_a_pair(units: usize) -> Vec<u8> {
+    make::with(pairs(units), 80, 0xDD11_DD11)
+}
+
+/// A sound envelope but for the first unit of its first text, which is zero and refused 10.
+fn zero_unit(units: usize) -> Vec<u8> {
+    make::with(envelope(units), 80, 0x0061_0000)
 }
 
 /// A sound segment but for its chunk shift, which is refused 25: the number at 20 has two zeros and the first two shifts.
@@ -157,6 +172,21 @@ fn operations<F>(meter: Meter<F>) -> Vec<Row<F>> {
             "envelope read",
             "368 bytes, public at L2 index 31",
             envelope_read(meter, 0, &public_at_31(20)),
+        ),
+        row(
+            "envelope read",
+            "368 bytes, all pairs",
+            envelope_read(meter, 0, &pairs(20)),
+        ),
+        row(
+            "envelope read",
+            "368 bytes, half a pair first",
+            envelope_read(meter, 24, &half_a_pair(20)),
+        ),
+        row(
+            "envelope read",
+            "8208 bytes, a zero unit first",
+            envelope_read(meter, 10, &zero_unit(1_000)),
         ),
         row(
             "envelope read",
@@ -309,6 +339,13 @@ fn growth<F>(meter: Meter<F>) -> Vec<Series<F>> {
         series("envelope read", "bytes", 0, &UNITS, |units| {
             (len(units), envelope_read(meter, 0, &envelope(units)))
         }),
+        series(
+            "envelope read, all pairs",
+            "bytes",
+            0,
+            &UNITS[1..],
+            |units| (len(units), envelope_read(meter, 0, &pairs(units))),
+        ),
         series("envelope read, wrong mark", "bytes", 0, &UNITS, |units| {
             (len(units), envelope_read(meter, 4, &wrong_mark(units)))
         }),

@@ -302,7 +302,7 @@ pub fn envelope_write<F>(meter: Meter<F>, units: usize, output: Output) -> F {
         private_length: 0,
         public_length: 0,
     };
-    let bodies = make::bodies(units);
+    let bodies = make::bodies(make::Letters::Ascii, units);
     let [kdf, kdf_parameters, agreement, agreement_parameters, domain, forest, l1_key, l2_key] =
         bodies.each_ref().map(|body| &body[..]);
     let given = by::envelope::Bodies {

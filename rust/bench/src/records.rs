@@ -126,9 +126,23 @@ pub fn segment(blocks: usize) -> Vec<u8> {
     segment
 }
 
+/// What a text is made of.
+#[derive(Clone, Copy)]
+pub enum Letters {
+    /// One unit each.
+    Ascii,
+    /// A pair each, but for the last one of an odd number of units.
+    Pairs,
+}
+
 /// A text of `units` 16-bit units, the last of them zero.
-pub fn text(units: usize) -> Vec<u8> {
-    let mut text = [b'a', 0].repeat(units - 1);
+fn text(letters: Letters, units: usize) -> Vec<u8> {
+    let pairs = match letters {
+        Letters::Ascii => 0,
+        Letters::Pairs => (units - 1) / 2,
+    };
+    let mut text = [0x3D, 0xD8, 0x11, 0xDD].repeat(pairs);
+    text.extend([b'a', 0].repeat(units - 1 - 2 * pairs));
     text.extend([0, 0]);
     text
 }
@@ -140,15 +154,16 @@ pub const ROOT: [u8; 16] = *b"the root key id.";
 pub type Bodies = [Vec<u8>; 8];
 
 /// The bodies of an envelope with both keys and four texts of `units` units, and with none of the keys where `units` is 1.
-pub fn bodies(units: usize) -> Bodies {
+pub fn bodies(letters: Letters, units: usize) -> Bodies {
+    let text = || text(letters, units);
     let key = if units == 1 { vec![] } else { vec![6; 64] };
     [
-        text(units),
+        text(),
         vec![],
-        text(units),
+        text(),
         vec![],
-        text(units),
-        text(units),
+        text(),
+        text(),
         key.clone(),
         key,
     ]

@@ -6,7 +6,7 @@ use std::fmt;
 use crate::make::Kind;
 use crate::rng::Rng;
 
-/// The refusal numbers of document 01's table, which leave a gap at 24, and 0 for accepted.
+/// The refusal numbers of the table, and 0 for accepted.
 const NUMBERS: usize = 26;
 
 /// Counts of what a run met.

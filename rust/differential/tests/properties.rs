@@ -1,8 +1,8 @@
-//! Properties of the built library: demand 3, the two decisions, round trips, the walk, a segment's blocks, public envelopes, the choice by the
+//! Properties of the built library: demand 3, the two decisions, round trips, the walk, a segment's blocks, public envelopes, texts, the choice by the
 //! reach, the time rule.
 
 use differential::properties::{
-    blocks, described, public, round_trips, serving, steps, waiting, walk,
+    blocks, described, public, round_trips, serving, steps, texts, waiting, walk,
 };
 
 #[test]
@@ -68,6 +68,11 @@ fn segment_blocks_one_by_one() {
 #[test]
 fn public_envelopes_anywhere() {
     public::ANYWHERE.check();
+}
+
+#[test]
+fn texts_are_strings() {
+    texts::TEXTS.check();
 }
 
 #[test]

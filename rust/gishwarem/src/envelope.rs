@@ -4,7 +4,7 @@ use std::fmt;
 
 use crate::answer::{accepted, cut, written};
 use crate::secret::Unshown;
-use crate::{calls, raw, Form, Gkid, Refusal, RootId};
+use crate::{calls, raw, Form, Gkid, Refusal, RootId, Texts};
 
 /// The values of an envelope's head, as a reader shows them and a writer takes them.
 ///
@@ -178,6 +178,8 @@ pub struct Envelope<'a> {
     pub head: Head,
     /// The bodies.
     pub bodies: Bodies<'a>,
+    /// Those of them that are texts, as units and as characters.
+    pub texts: Texts<'a>,
     /// The form, by the keys present.
     pub form: Form,
     /// Whether the envelope is public, with a key or without.
@@ -213,6 +215,7 @@ impl<'a> Envelope<'a> {
         Ok(Envelope {
             head: answer.head.into(),
             bodies: Bodies::cut_from(bytes, &answer.bodies),
+            texts: Texts::cut_from(bytes, &answer.bodies),
             form: Form::from_code(answer.form),
             is_public: answer.is_public == 1,
         })

@@ -11,7 +11,7 @@
 //! | a list of entries | [`List`], judged whole; [`Walk`], entry by entry |
 //! | EfsKey (MS-GPEF 2.2.1.2.2) | [`EfsKey`] |
 //! | Data Segment Encryption Header (MS-EFSR 2.2.3.3) | [`Segment`] |
-//! | Group Key Envelope (MS-GKDI 2.2.4) | [`Envelope`] |
+//! | Group Key Envelope (MS-GKDI 2.2.4) | [`Envelope`], and its texts, [`Text`] |
 //! | time and identifiers | [`FileTime`], [`Gkid`], [`RootId`] |
 //! | security descriptor (MS-DTYP 2.4.6) | [`check_descriptor`] |
 //! | the GetKey decision (MS-GKDI 3.1.4.1) | [`decide`]; by a verdict, [`decide_by_verdict`] |
@@ -66,6 +66,7 @@ mod rootid;
 mod secret;
 mod segment;
 mod serving;
+mod text;
 mod time;
 mod walk;
 
@@ -83,6 +84,7 @@ pub use request::Request;
 pub use rootid::RootId;
 pub use segment::{Segment, SegmentHead};
 pub use serving::{serving_key, SeedKey, ServingKey, Source};
+pub use text::{Text, Texts};
 pub use time::FileTime;
 pub use walk::{ListEntry, Walk};
 

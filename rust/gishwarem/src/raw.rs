@@ -13,7 +13,7 @@
 pub mod codes;
 
 /// The version of the header that these declarations follow.
-pub const VERSION: u32 = 4;
+pub const VERSION: u32 = 5;
 
 /// A part of the caller's bytes. Both are 0 beside a refusal, at the end of a list, and with `SID_NONE`; an absent body of an
 /// envelope, and the sizes of no block, have length 0 at their place in the layout.

@@ -63,6 +63,8 @@ pub enum Refusal {
     BytesLeft = 22,
     /// Neither envelope serves.
     NeitherServes = 23,
+    /// Text with an unpaired surrogate.
+    UnpairedSurrogate = 24,
     /// Chunk and data unit shift differ, or a shift is over 31.
     WrongShifts = 25,
 }
@@ -77,7 +79,7 @@ impl Refusal {
     /// assert!(numbers.windows(2).all(|pair| pair[0] < pair[1]));
     /// assert!(!numbers.contains(&0));
     /// ```
-    pub const ALL: [Refusal; 24] = [
+    pub const ALL: [Refusal; 25] = [
         Refusal::TooLong,
         Refusal::Short,
         Refusal::LengthsDisagree,
@@ -101,6 +103,7 @@ impl Refusal {
         Refusal::StartPastTime,
         Refusal::BytesLeft,
         Refusal::NeitherServes,
+        Refusal::UnpairedSurrogate,
         Refusal::WrongShifts,
     ];
 
@@ -159,6 +162,7 @@ impl Refusal {
             Refusal::StartPastTime => "identifier's start time exceeds 64 bits",
             Refusal::BytesLeft => "bytes left after the last list entry",
             Refusal::NeitherServes => "neither envelope serves",
+            Refusal::UnpairedSurrogate => "text with an unpaired surrogate",
             Refusal::WrongShifts => "chunk and data unit shift differ, or a shift is over 31",
         }
     }

@@ -79,13 +79,13 @@ fn form(flags: u32, l2_key: &[u8]) -> (Form, bool) {
 #[test]
 fn a_reader_shows_what_is_laid_out() {
     let bytes = laid_out();
-    let expected = Envelope {
-        head: HEAD,
-        bodies: BODIES,
-        form: Form::Both,
-        is_public: false,
-    };
-    assert_eq!(Envelope::read(&bytes), Ok(expected));
+    let envelope = Envelope::read(&bytes).expect("an envelope");
+    assert_eq!(envelope.head, HEAD);
+    assert_eq!(envelope.bodies, BODIES);
+    assert_eq!((envelope.form, envelope.is_public), (Form::Both, false));
+    let texts = envelope.texts;
+    let shown = [texts.kdf, texts.agreement, texts.domain, texts.forest];
+    assert_eq!(shown.map(|text| text.to_string()), ["k", "aa", "d", ""]);
 }
 
 #[test]

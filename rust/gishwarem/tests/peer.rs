@@ -32,22 +32,24 @@ fn text(letters: &str) -> Vec<u8> {
 #[test]
 fn it_shows_each_value_and_part() {
     let name = text("example.com");
-    let expected = Envelope {
-        head: HEAD,
-        bodies: Bodies {
-            kdf: &text("SP800_108_CTR_HMAC"),
-            kdf_parameters: &PEER[118..148],
-            agreement: &text("DH"),
-            agreement_parameters: &PEER[154..678],
-            domain: &name,
-            forest: &name,
-            l1_key: &PEER[726..790],
-            l2_key: &PEER[790..854],
-        },
-        form: Form::Both,
-        is_public: false,
+    let bodies = Bodies {
+        kdf: &text("SP800_108_CTR_HMAC"),
+        kdf_parameters: &PEER[118..148],
+        agreement: &text("DH"),
+        agreement_parameters: &PEER[154..678],
+        domain: &name,
+        forest: &name,
+        l1_key: &PEER[726..790],
+        l2_key: &PEER[790..854],
     };
-    assert_eq!(Envelope::read(PEER), Ok(expected));
+    let envelope = Envelope::read(PEER).expect("an envelope");
+    assert_eq!(envelope.head, HEAD);
+    assert_eq!(envelope.bodies, bodies);
+    assert_eq!((envelope.form, envelope.is_public), (Form::Both, false));
+    assert_eq!(envelope.texts.kdf.to_string(), "SP800_108_CTR_HMAC");
+    assert_eq!(envelope.texts.agreement.to_string(), "DH");
+    assert_eq!(envelope.texts.domain.to_string(), "example.com");
+    assert_eq!(envelope.texts.forest.to_string(), "example.com");
 }
 
 #[test]

@@ -1,5 +1,5 @@
 //! The Group Key Envelope (MS-GKDI 2.2.4; document 01, "Group Key Envelope";
-//! document 02, No. 4).
+//! document 02, No. 4 and No. 6).
 
 use crate::time::Gkid;
 use crate::{put_u32, record_length, u32_at, Part, MAX_LENGTH};
@@ -154,25 +154,35 @@ fn read_head(bytes: &[u8]) -> Head {
     }
 }
 
-/// Refuses 10 unless all are texts.
+/// Judges the texts in body order, each whole before the next.
 fn check_texts(texts: [&[u8]; 4]) -> Result<(), u32> {
-    if !texts.into_iter().all(is_text) {
-        return Err(10);
-    }
-    Ok(())
+    texts.into_iter().try_for_each(check_text)
 }
 
-/// Whether the bytes are a text: even length, at least 2, the last 16-bit unit
-/// zero, no earlier one zero.
-fn is_text(bytes: &[u8]) -> bool {
+/// Refuses 10 unless the bytes are a text: even length, at least 2, the last
+/// 16-bit unit zero, no earlier one zero. Then refuses 24 for an unpaired
+/// surrogate: a high one that no low one follows, or a low one that stands
+/// behind no high one.
+fn check_text(bytes: &[u8]) -> Result<(), u32> {
     let mut units = bytes.chunks_exact(2);
-    if !units.remainder().is_empty() {
-        return false;
+    if !units.remainder().is_empty() || units.next_back() != Some(&[0, 0]) {
+        return Err(10);
     }
-    let Some(last) = units.next_back() else {
-        return false;
-    };
-    last == [0, 0] && units.all(|unit| unit != [0, 0])
+    let mut behind_high = false;
+    let mut unpaired = false;
+    for unit in units {
+        let unit = u16::from_le_bytes([unit[0], unit[1]]);
+        if unit == 0 {
+            return Err(10);
+        }
+        unpaired |= behind_high != matches!(unit, 0xDC00..=0xDFFF);
+        behind_high = matches!(unit, 0xD800..=0xDBFF);
+    }
+    // The terminator is no low one.
+    if unpaired || behind_high {
+        return Err(24);
+    }
+    Ok(())
 }
 
 /// Refuses 11 if a key's length breaks the key rules.
@@ -401,8 +411,11 @@ mod tests {
             &[0, 1, 0, 0],
             // Two zero bytes across units are no zero unit.
             &[0x41, 0, 0, 0x41, 0, 0],
+            // The units beside the surrogates, and a pair.
+            &[0xFF, 0xD7, 0x00, 0xE0, 0, 0],
+            &[0x00, 0xD8, 0xFF, 0xDF, 0, 0],
         ] {
-            assert!(is_text(good));
+            assert_eq!(check_text(good), Ok(()));
         }
         for bad in [
             &[][..],
@@ -413,8 +426,22 @@ mod tests {
             &[0, 0, 0, 0],
             &[0, 0, 0x41, 0, 0, 0],
             &[0x41, 0, 0, 0, 0],
+            // 10 before 24, also where the surrogate comes first.
+            &[0x00, 0xD8],
+            &[0x00, 0xD8, 0, 0, 0, 0],
         ] {
-            assert!(!is_text(bad));
+            assert_eq!(check_text(bad), Err(10));
+        }
+        for unpaired in [
+            &[0x00, 0xD8, 0, 0][..],
+            &[0xFF, 0xDB, 0x41, 0, 0, 0],
+            &[0x00, 0xDC, 0, 0],
+            &[0xFF, 0xDF, 0, 0],
+            &[0x00, 0xDC, 0x00, 0xD8, 0, 0],
+            &[0x00, 0xD8, 0x00, 0xD8, 0x00, 0xDC, 0, 0],
+            &[0x00, 0xD8, 0x00, 0xDC, 0x00, 0xDC, 0, 0],
+        ] {
+            assert_eq!(check_text(unpaired), Err(24));
         }
         // Each of the four is judged.
         for at in 80..88 {

@@ -54,19 +54,30 @@ pub fn root(rng: &mut Rng) -> Root {
     Root { bytes }
 }
 
-/// A text: units that aren't zero, then one that is.
+/// Units that are characters by themselves: the least ones and those with a zero byte, beside the surrogates, a byte order mark
+/// in either order, and noncharacters.
+const SINGLE: [u16; 8] = [
+    0x0001, 0x0100, 0xD7FF, 0xE000, 0xFEFF, 0xFFFE, 0xFDD0, 0xFFFF,
+];
+
+/// High surrogates: the first, one between, the last.
+const HIGH: [u16; 3] = [0xD800, 0xD83D, 0xDBFF];
+
+/// Low surrogates: the first, one between, the last.
+const LOW: [u16; 3] = [0xDC00, 0xDD11, 0xDFFF];
+
+/// A text: `units` units that aren't zero and make whole characters, then one that is.
 fn text(rng: &mut Rng, units: usize) -> Vec<u8> {
-    let mut bytes = rng.bytes(2 * units);
-    for unit in bytes.chunks_exact_mut(2) {
+    let mut text = Vec::with_capacity(units + 1);
+    while text.len() < units {
         match rng.below(4) {
-            0 => unit.copy_from_slice(&[0, 1]),
-            1 => unit.copy_from_slice(&[1, 0]),
-            _ if unit == [0, 0] => unit[0] = 1,
-            _ => {}
+            0 if text.len() + 2 <= units => text.extend([rng.pick(&HIGH), rng.pick(&LOW)]),
+            1 => text.push(rng.pick(&SINGLE)),
+            _ => text.push(rng.within(0x0001, 0xD7FF) as u16),
         }
     }
-    bytes.extend([0, 0]);
-    bytes
+    text.push(0);
+    text.into_iter().flat_map(u16::to_le_bytes).collect()
 }
 
 impl Envelope {
@@ -235,21 +246,37 @@ impl Envelope {
 /// Breaks a text, or nearly: its length, its last unit, or a unit before.
 fn move_text(rng: &mut Rng, text: &mut Vec<u8>) {
     let len = text.len();
-    match rng.below(6) {
+    // A place between two units, the ends included; there may be a pair across it.
+    let at = 2 * rng.below(len / 2 + 1);
+    match rng.below(9) {
         0 => text.clear(),
         1 => text.truncate(len.saturating_sub(1)),
         2 => text.push(0),
         3 => text.truncate(len.saturating_sub(2)),
         4 => {
             // A zero unit at any place: one more at the end, or one before.
-            let at = 2 * rng.below(len / 2 + 1);
             text.splice(at..at, [0, 0]);
+        }
+        5 | 6 => {
+            // A half pair, which a surrogate beside it may complete.
+            text.splice(at..at, half_a_pair(rng));
+        }
+        7 => {
+            // Two surrogates in each of the four orders.
+            let two = [half_a_pair(rng), half_a_pair(rng)];
+            text.splice(at..at, two.concat());
         }
         _ => {
             // Two zero bytes across two units are no zero unit.
             text.splice(0..0, [1, 0, 0, 1]);
         }
     }
+}
+
+/// A surrogate, high or low.
+fn half_a_pair(rng: &mut Rng) -> [u8; 2] {
+    let halves = rng.pick(&[HIGH, LOW]);
+    rng.pick(&halves).to_le_bytes()
 }
 
 /// Lengths of keys that the key rules allow, and a public key length to match.

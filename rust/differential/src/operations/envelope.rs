@@ -21,7 +21,7 @@ const PUBLIC_AT_31: &str = "PUBLIC at L2 31";
 pub const READ: Subject = Subject {
     name: "envelope read",
     run: read,
-    refusals: &[1, 2, 3, 4, 5, 10, 11],
+    refusals: &[1, 2, 3, 4, 5, 10, 11, 24],
     events: &FORMS,
 };
 
@@ -29,7 +29,7 @@ pub const READ: Subject = Subject {
 pub const WRITE: Subject = Subject {
     name: "envelope write",
     run: write,
-    refusals: &[1, 5, 10, 11, 13],
+    refusals: &[1, 5, 10, 11, 13, 24],
     events: &[PUBLIC_AT_31],
 };
 

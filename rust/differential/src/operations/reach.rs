@@ -14,7 +14,7 @@ use crate::{ask, expected};
 pub const OF_ENVELOPE: Subject = Subject {
     name: "envelope reach",
     run: of_envelope,
-    refusals: &[1, 2, 3, 4, 5, 10, 11],
+    refusals: &[1, 2, 3, 4, 5, 10, 11, 24],
     events: &[EMPTY, "some", "whole group"],
 };
 

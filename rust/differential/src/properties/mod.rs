@@ -7,6 +7,7 @@ pub mod public;
 pub mod round_trips;
 pub mod serving;
 pub mod steps;
+pub mod texts;
 pub mod waiting;
 pub mod walk;
 
@@ -15,7 +16,7 @@ use gishwarem::raw::{Identifier, Part};
 use crate::subject::Subject;
 
 /// Every property.
-pub const ALL: [Subject; 15] = [
+pub const ALL: [Subject; 16] = [
     waiting::WAITING,
     waiting::WAITING_BY_VERDICT,
     described::DESCRIBED,
@@ -29,6 +30,7 @@ pub const ALL: [Subject; 15] = [
     walk::WALK,
     blocks::BLOCKS,
     public::ANYWHERE,
+    texts::TEXTS,
     serving::SERVING,
     steps::STEPS,
 ];

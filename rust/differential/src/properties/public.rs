@@ -16,7 +16,7 @@ use crate::tally::Tally;
 pub const ANYWHERE: Subject = Subject {
     name: "public envelope anywhere",
     run: anywhere,
-    refusals: &[1, 10, 11],
+    refusals: &[1, 10, 11, 24],
     events: &["with its key", "without a key"],
 };
 

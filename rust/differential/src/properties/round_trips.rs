@@ -58,7 +58,7 @@ pub const SEGMENT_READ: Subject = Subject {
 pub const ENVELOPE_WRITTEN: Subject = Subject {
     name: "envelope written, then read",
     run: envelope_written,
-    refusals: &[1, 5, 10, 11, 13],
+    refusals: &[1, 5, 10, 11, 13, 24],
     events: &[],
 };
 
@@ -66,7 +66,7 @@ pub const ENVELOPE_WRITTEN: Subject = Subject {
 pub const ENVELOPE_READ: Subject = Subject {
     name: "envelope read, then written",
     run: envelope_read,
-    refusals: &[1, 2, 3, 4, 5, 10, 11],
+    refusals: &[1, 2, 3, 4, 5, 10, 11, 24],
     events: &[],
 };
 
