@@ -21,6 +21,7 @@ pub fn judge(s: &[u8]) -> Outcome
     }
     let last = s.len() / 2 - 1;
     let mut zero = false;
+    // Before the first unit there is none, so that a low one there is unpaired.
     let mut unpaired = is_low(le16_at(s, 0));
     let mut k = 0;
     while k < last {

@@ -49,11 +49,12 @@ pub fn question(rng: &mut Rng, kind: Kind) -> Question {
     let mut asked = wanted;
     if kind == Kind::Moved {
         for _ in 0..rng.within(1, 2) {
-            match rng.below(5) {
+            match rng.below(6) {
                 0 => asked = identifier::moved(rng, asked),
                 1 => root.bytes[rng.below(16)] ^= 1,
                 2 => serving.head.flags ^= 1,
                 3 => serving.head.at = identifier::moved(rng, serving.head.at),
+                4 => serving.move_text(rng),
                 _ => serving.head.root = envelope::root(rng),
             }
         }

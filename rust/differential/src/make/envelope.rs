@@ -235,11 +235,14 @@ impl Envelope {
                 let near = rng.pick(&[len + 1, len.saturating_sub(1)]);
                 self.bodies[key] = rng.bytes(near);
             }
-            _ => {
-                let body = rng.pick(&TEXTS);
-                move_text(rng, &mut self.bodies[body]);
-            }
+            _ => self.move_text(rng),
         }
+    }
+
+    /// Breaks one of its texts, or nearly.
+    pub fn move_text(&mut self, rng: &mut Rng) {
+        let body = rng.pick(&TEXTS);
+        move_text(rng, &mut self.bodies[body]);
     }
 }
 

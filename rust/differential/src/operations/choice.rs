@@ -19,6 +19,8 @@ pub const CHOOSE: Subject = Subject {
         "cached by L2",
         "fetched by L1",
         "fetched by L2",
+        "half a pair, the other one",
+        "half a pair, neither",
     ],
 };
 
@@ -37,6 +39,13 @@ fn choose(rng: &mut Rng, tally: &mut Tally) {
         &answer,
         &expected::choose(root, *wanted, cached, fetched),
     );
+    let half_a_pair = |envelope| expected::envelope_read(envelope).refusal == 24;
+    if half_a_pair(cached) || half_a_pair(fetched) {
+        tally.event(match answer.refusal {
+            0 => "half a pair, the other one",
+            _ => "half a pair, neither",
+        });
+    }
     match (answer.which, answer.key) {
         (codes::CACHED, codes::KEY_L1) => tally.event("cached by L1"),
         (codes::CACHED, codes::KEY_L2) => tally.event("cached by L2"),
