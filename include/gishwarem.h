@@ -27,7 +27,8 @@ extern "C" {
  * 2: zeros in place of a SID, which were refused with 12, are accepted, with the kind GW_SID_NO_HINT.
  * 3: a public envelope at L2 index 31 with a key of its public key length, which was refused with 11, is accepted and written.
  * 4: gw_decide takes the security descriptor's bytes, a pointer and a length, in place of the verdict on it. What it was stands
- * under the name gw_decide_by_verdict. */
+ * under the name gw_decide_by_verdict.
+ * 5: an envelope with an unpaired surrogate in a text, which was accepted and written, is refused with 24, and serves nothing. */
 #define GW_VERSION 5u
 
 /* Refusal numbers. */

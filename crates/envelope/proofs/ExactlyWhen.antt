@@ -1,17 +1,22 @@
--- An envelope is accepted exactly when it is well formed, as MS-GKDI 2.2.4 states it, narrowed by document 01, and by the house rule for its keys.
+-- An envelope is accepted exactly when it is well formed, as MS-GKDI 2.2.4 states it, narrowed by documents 01 and 02, and by the house rule for its keys.
 use Rattle.lemmas.proofs.Basics.{ℕ, arith, not, List, _≡_, sym, ap, _∙_, length, le-ltb, ltb-false, eq-eqb, eqb-true}
 use Rattle.lemmas.proofs.Cases.{not-false}
 use Rattle.refusal.specs.Chain.{unlessRefused}
 use Rattle.wire.specs.Numbers.{leOf, leBytes}
 use Rattle.wire.specs.Parts.{leAt}
-use Rattle.wire.proofs.Numbers.{Bytes, le-part-back}
+use Rattle.wire.proofs.Numbers.{Bytes, bytes-part, le-part-back}
 use Rattle.gkid.specs.Identifier.{InGroup}
 use Rattle.gkid.proofs.Order.{in-group, not-above}
+use Rattle.text.specs.Units.{unitsOf}
+use Rattle.text.specs.Conversion.{Converts}
 use Rattle.text.proofs.ExactlyWhen.{text-well-formed, well-formed-text}
+use Rattle.text.proofs.Conversion.{text-converts}
 use Rattle.keys.specs.WellFormed as keys
 use Rattle.keys.proofs.ExactlyWhen.{keys-well-formed, well-formed-keys}
+use Rattle.envelope.specs.declared.EnvelopePart.{EnvelopePart}
+use Rattle.envelope.specs.declared.EnvelopePart.the-variants.{Kdf, Agreement, Domain, Forest}
 use Rattle.envelope.specs.Layout.{headOf, isPublic, lengthsOf}
-use Rattle.envelope.specs.Reading.{envelopeOf, envelopeNumber}
+use Rattle.envelope.specs.Reading.{bodyAt, envelopeOf, envelopeNumber}
 use Rattle.envelope.specs.WellFormed.{WellFormed}
 use Rattle.envelope.proofs.Reading.{accepted-checks, passed, passes}
 
@@ -55,3 +60,11 @@ well-formed-accepted s w =
       forest = well-formed-text _ (w .forest);
       keys = well-formed-keys _ _ _ _ _ (w .keys);
     }))
+
+-- So each text of an accepted envelope converts to characters without loss.
+pub texts-convert : (s : List ℕ) → Bytes s → envelopeNumber (envelopeOf s) ≡ 0
+    → Converts (unitsOf (bodyAt s Kdf)) × Converts (unitsOf (bodyAt s Agreement)) × Converts (unitsOf (bodyAt s Domain)) × Converts (unitsOf (bodyAt s Forest))
+texts-convert s b z =
+    let w = accepted-well-formed s b z in
+    let body : (which : EnvelopePart) → Bytes (bodyAt s which) = λ which. bytes-part s _ _ b in
+    (text-converts _ (body Kdf) (w .kdf), text-converts _ (body Agreement) (w .agreement), text-converts _ (body Domain) (w .domain), text-converts _ (body Forest) (w .forest))

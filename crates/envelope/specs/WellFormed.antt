@@ -1,5 +1,5 @@
--- MS-GKDI 2.2.4, narrowed by document 01, and for the keys' lengths the house rule of document 02, No. 4: when an envelope is well formed,
--- without an order of checks.
+-- MS-GKDI 2.2.4, narrowed by document 01 and for the texts by document 02, No. 6, and for the keys' lengths the house rule of document 02,
+-- No. 4: when an envelope is well formed, without an order of checks.
 use Prim.Native.Nat.{ℕ, _≤_}
 use mathlib.Core.List.{List}
 use mathlib.Core.Path.{_≡_}
@@ -22,7 +22,7 @@ pub record WellFormed (s : List ℕ) : Type 0 where
   pub indices : InGroup (headOf s .at)
   -- each length field MUST be the length of its body, and the bodies make up the rest of the record
   pub lengths : endAt (lengthsOf s) ≡ length s
-  -- null-terminated Unicode strings
+  -- null-terminated Unicode strings, of which each is sound UTF-16
   pub kdf : text.WellFormed (bodyAt s Kdf)
   pub agreement : text.WellFormed (bodyAt s Agreement)
   pub domain : text.WellFormed (bodyAt s Domain)

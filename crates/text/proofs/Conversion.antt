@@ -3,6 +3,7 @@ use Rattle.lemmas.proofs.Basics.{ℕ, _+_, _-_, _*_, _/_, _%_, _≤_, _<_, arit
 use Rattle.lemmas.proofs.Cases.{by-cases}
 use Rattle.wire.specs.Numbers.{leOf}
 use Rattle.wire.specs.Parts.{joined}
+use Rattle.wire.proofs.Numbers.{Bytes}
 use Rattle.text.specs.Units.{unitsOf}
 use Rattle.text.specs.WellFormed.{Characters, none, one, pair, WellFormed}
 use Rattle.text.specs.Conversion.{Each, Scalar, utf16, Converts}
@@ -58,11 +59,11 @@ pub converted : {us : List ℕ} → Converts us → Characters us
 converted w = rw (← (w .encoded)) (sequence (w .characters) (w .scalars))
 
 -- So a text of bytes that is well formed converts.
-units-below : (s : List ℕ) → Each (λ b. b < 256) s → Each (λ u. u < 0x10000) (unitsOf s)
+units-below : (s : List ℕ) → Bytes s → Each (λ u. u < 0x10000) (unitsOf s)
 unfolding unitsOf leOf
 units-below [] bytes = tt
 units-below (b0 ∷ []) bytes = tt
 units-below (b0 ∷ b1 ∷ s) bytes = (omega (arith, bytes .0, bytes .1 .0), units-below s (bytes .1 .1))
 
-pub text-converts : (s : List ℕ) → Each (λ b. b < 256) s → WellFormed s → Converts (unitsOf s)
+pub text-converts : (s : List ℕ) → Bytes s → WellFormed s → Converts (unitsOf s)
 text-converts s bytes w = converts (units-below s bytes) (w .characters)

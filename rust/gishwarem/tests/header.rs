@@ -82,3 +82,14 @@ fn the_version_is_the_headers() {
     assert_eq!(gishwarem::raw::VERSION, defined("GW_VERSION"));
     assert_eq!(gishwarem::version(), defined("GW_VERSION"));
 }
+
+/// The header says of each version from 2 on what it changed.
+#[test]
+fn each_version_has_its_line() {
+    let told: Vec<u32> = HEADER
+        .lines()
+        .filter_map(|line| line.strip_prefix(" * ")?.split_once(": ")?.0.parse().ok())
+        .collect();
+    let expected: Vec<u32> = (2..=gishwarem::raw::VERSION).collect();
+    assert_eq!(told, expected);
+}
