@@ -1,5 +1,7 @@
 // Document 01, "Time and identifiers": clock readings, group key identifiers, their start times, their order and the next older
 // one. A reading and an index are types of their own, so that neither stands in for the other.
+#![tactic(auto)]
+
 ghost use Rattle.std.specs.Prelude.{◌≡◌, not, ◌+◌, ◌*◌};
 ghost use Rattle.gkid.specs.Identifier.{index_above_31, InGroup};
 ghost use Rattle.gkid.specs.Conversion.{gkid_at};
@@ -13,17 +15,17 @@ use refusal::Refusal;
 pub struct FileTime(pub u64);
 
 // The three indices of an identifier.
-#[derive(Drop)]
+#[derive(Clone, Copy)]
 pub struct L0(pub u32);
 
-#[derive(Drop)]
+#[derive(Clone, Copy)]
 pub struct L1(pub u32);
 
-#[derive(Drop)]
+#[derive(Clone, Copy)]
 pub struct L2(pub u32);
 
 // A group key identifier, (L0, L1, L2).
-#[derive(Drop)]
+#[derive(Clone, Copy)]
 pub struct Gkid {
     pub l0: L0,
     pub l1: L1,

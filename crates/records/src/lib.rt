@@ -1,5 +1,7 @@
 // What the readers and writers of records share: the limit of 65,535 bytes, lengths that are added without wrapping, and a
 // writer's answer.
+#![tactic(auto)]
+
 ghost use Rattle.std.specs.Prelude.{◌≡◌, ◌+◌, min};
 
 use refusal::Refusal;

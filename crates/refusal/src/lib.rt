@@ -1,5 +1,7 @@
 // The refusals of document 01 as one enum, each with its number, and the chain of checks: the first check that applies is
 // the answer.
+#![tactic(auto)]
+
 ghost use Rattle.std.specs.Prelude.{◌≡◌};
 ghost use Rattle.refusal.specs.Number.{number_of, outcome_number};
 ghost use Rattle.refusal.specs.Chain.{goes_on, refuse_if};

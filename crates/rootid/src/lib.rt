@@ -1,5 +1,7 @@
 // Root key identifiers: 16 bytes, as they stand in an envelope, a table row and a request, held as two little-endian numbers.
 // They are only compared, so that the order of the bytes means nothing; no GUID byte order is applied anywhere.
+#![tactic(auto)]
+
 ghost use Rattle.std.specs.Prelude.{◌≡◌};
 ghost use Rattle.wire.specs.Parts.{onto};
 ghost use Rattle.rootid.specs.Root.{root_at, root_bytes, same_root};

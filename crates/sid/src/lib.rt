@@ -1,4 +1,6 @@
 // The SID rule of document 01 (MS-DTYP 2.4.2): whether a SID stands at the start of bytes, and whether bytes are exactly one.
+#![tactic(auto)]
+
 ghost use Rattle.std.specs.Prelude.{◌≡◌};
 ghost use Rattle.sid.specs.Rule.{starts_sid, is_sid};
 

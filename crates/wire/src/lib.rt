@@ -1,5 +1,7 @@
 // Numbers in bytes, parts of a slice, and putting bytes into a lent part. Every function is total: a number or a part that
 // does not lie wholly inside is 0 or empty, and what does not fit changes nothing.
+#![tactic(auto)]
+
 ghost use Rattle.std.specs.Prelude.{◌≡◌, [], ◌∷◌, ◌+◌, ◌*◌, drop};
 ghost use Rattle.wire.specs.Numbers.{le_of, le_bytes};
 ghost use Rattle.wire.specs.Parts.{le_at, be_at, part_of, start_of, onto, le32_bytes};
@@ -129,7 +131,7 @@ pub fn copy_into(dst: &mut [u8], src: &[u8])
     ensures { dst.new ≡ onto src.now dst.old }
 {
     if src.len() <= dst.len() {
-        bytes::copy(src, dst);
+        dst[..src.len()].copy_from_slice(src);
     }
 }
 
