@@ -9,7 +9,7 @@ use sid::starts_sid;
 use wire::{Span, byte_at, le16_at, le32_at, part, rest};
 
 // What the check finds: a sound descriptor, or the part that fails first.
-#[derive(Drop)]
+#[derive(Clone, Copy)]
 pub enum Finding {
     Sound,
     Head,

@@ -13,14 +13,14 @@ use sid::is_sid;
 use wire::{Span, copy_into, le32_at, put_le32s};
 
 // An accepted EfsKey: what it has of a SID, and where the certificate stands, counted from byte 0 of the record.
-#[derive(Drop)]
+#[derive(Clone, Copy)]
 pub struct EfsKey {
     pub sid: SidHint,
     pub certificate: Span,
 }
 
 // What an EfsKey has of a SID, a hint on who made the key: none, one, or zero bytes in its place, which give no hint.
-#[derive(Drop)]
+#[derive(Clone, Copy)]
 pub enum SidHint {
     None,
     Sid(Span),
@@ -28,21 +28,21 @@ pub enum SidHint {
 }
 
 // What reading an EfsKey answers.
-#[derive(Drop)]
+#[derive(Clone, Copy)]
 pub enum EfsKeyRead {
     Accepted(EfsKey),
     Refused(Refusal),
 }
 
 // The parts of an EfsKey.
-#[derive(Drop)]
+#[derive(Clone, Copy)]
 pub enum EfsKeyPart {
     Sid,
     Certificate,
 }
 
 // What a SID area holds: one of these, or what is none of them.
-#[derive(Drop)]
+#[derive(Clone, Copy)]
 enum SidArea {
     Holds(SidHint),
     Malformed,

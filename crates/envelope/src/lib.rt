@@ -17,7 +17,7 @@ use rootid::RootId;
 use wire::{Span, copy_into, le32_at, put_le32s};
 
 // The head's values. The private and the public key length have no body.
-#[derive(Drop)]
+#[derive(Clone, Copy)]
 pub struct Head {
     pub version: u32,
     pub flags: u32,
@@ -28,7 +28,7 @@ pub struct Head {
 }
 
 // Where the eight bodies stand, in their order.
-#[derive(Drop)]
+#[derive(Clone, Copy)]
 pub struct Bodies {
     pub kdf: Span,
     pub kdf_parameters: Span,
@@ -41,21 +41,21 @@ pub struct Bodies {
 }
 
 // An accepted envelope: the head's values, and where the bodies stand.
-#[derive(Drop)]
+#[derive(Clone, Copy)]
 pub struct Envelope {
     pub head: Head,
     pub bodies: Bodies,
 }
 
 // What reading an envelope answers.
-#[derive(Drop)]
+#[derive(Clone, Copy)]
 pub enum EnvelopeRead {
     Accepted(Envelope),
     Refused(Refusal),
 }
 
 // The parts of an envelope: its bodies.
-#[derive(Drop)]
+#[derive(Clone, Copy)]
 pub enum EnvelopePart {
     Kdf,
     KdfParameters,
@@ -68,7 +68,7 @@ pub enum EnvelopePart {
 }
 
 // The eight body lengths, in the order in which the head has them.
-#[derive(Drop)]
+#[derive(Clone, Copy)]
 struct Lengths {
     kdf: u32,
     kdf_parameters: u32,

@@ -15,7 +15,7 @@ pub const VERSION: u32 = 5;
 
 // A place in the caller's own bytes.
 #[repr(C)]
-#[derive(Drop)]
+#[derive(Clone, Copy)]
 pub struct Part {
     pub at: usize,
     pub len: usize,
@@ -23,7 +23,7 @@ pub struct Part {
 
 // A group key identifier.
 #[repr(C)]
-#[derive(Drop)]
+#[derive(Clone, Copy)]
 pub struct Identifier {
     pub l0: u32,
     pub l1: u32,
@@ -32,14 +32,14 @@ pub struct Identifier {
 
 // A root key identifier, its 16 bytes as they stand in a record and in a table row.
 #[repr(C)]
-#[derive(Drop)]
+#[derive(Clone, Copy)]
 pub struct RootBytes {
     pub bytes: [u8; 16],
 }
 
 // What a writer answers: the record's length.
 #[repr(C)]
-#[derive(Drop)]
+#[derive(Clone, Copy)]
 pub struct WrittenAnswer {
     pub refusal: u32,
     pub reserved: u32,

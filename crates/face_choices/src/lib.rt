@@ -11,7 +11,7 @@ use wire::Span;
 
 // A reach: the map, index 0 the most significant bit of a row, and the number of set bits.
 #[repr(C)]
-#[derive(Drop)]
+#[derive(Clone, Copy)]
 pub struct ReachAnswer {
     pub refusal: u32,
     pub total: u32,
@@ -21,7 +21,7 @@ pub struct ReachAnswer {
 // Which envelope serves, 1 for the cached one, 2 for the fetched one; by which key, 1 for the L1 key, 2 for the L2 key; and where
 // that key stands in that envelope.
 #[repr(C)]
-#[derive(Drop)]
+#[derive(Clone, Copy)]
 pub struct ChoiceAnswer {
     pub refusal: u32,
     pub which: u32,

@@ -8,7 +8,7 @@ use request::{Request, Root};
 
 // A request: root_given is 0 where no root key is named; -1 in the three indices asks for the latest.
 #[repr(C)]
-#[derive(Drop)]
+#[derive(Clone, Copy)]
 pub struct RequestIndices {
     pub root_given: u32,
     pub l0: i32,
@@ -19,7 +19,7 @@ pub struct RequestIndices {
 
 // A decision: granted is 1 with a root row, 2 for a root key to create.
 #[repr(C)]
-#[derive(Drop)]
+#[derive(Clone, Copy)]
 pub struct DecisionAnswer {
     pub refusal: u32,
     pub granted: u32,

@@ -10,7 +10,7 @@ use wire::Span;
 
 // An EfsKey. The kind of its SID is 0 for none, 1 for a SID, 2 where zeros in its place give no hint.
 #[repr(C)]
-#[derive(Drop)]
+#[derive(Clone, Copy)]
 pub struct EfsKeyAnswer {
     pub refusal: u32,
     pub kind: u32,

@@ -11,7 +11,7 @@ use refusal::Refusal;
 
 // An entry. Its algorithm is 1 for RSA, 2 for AES-256, 3 for one that is not supported.
 #[repr(C)]
-#[derive(Drop)]
+#[derive(Clone, Copy)]
 pub struct EntryAnswer {
     pub refusal: u32,
     pub algorithm: u32,
@@ -23,7 +23,7 @@ pub struct EntryAnswer {
 
 // A list: its count; or the refusal, with the index of the entry that it is given for.
 #[repr(C)]
-#[derive(Drop)]
+#[derive(Clone, Copy)]
 pub struct ListAnswer {
     pub refusal: u32,
     pub count: u32,
@@ -33,7 +33,7 @@ pub struct ListAnswer {
 // A step: found is 1 for an entry, 2 for the end. The entry's parts count from its first byte, which is at `at` in the list. The
 // next place is the one behind the entry; at the end and on a refusal it is the place asked at.
 #[repr(C)]
-#[derive(Drop)]
+#[derive(Clone, Copy)]
 pub struct StepAnswer {
     pub refusal: u32,
     pub found: u32,

@@ -13,7 +13,7 @@ use wire::Span;
 
 // The head's values, as a reader shows them and a writer takes them.
 #[repr(C)]
-#[derive(Drop)]
+#[derive(Clone, Copy)]
 pub struct EnvelopeHead {
     pub version: u32,
     pub flags: u32,
@@ -25,7 +25,7 @@ pub struct EnvelopeHead {
 
 // Where the eight bodies stand.
 #[repr(C)]
-#[derive(Drop)]
+#[derive(Clone, Copy)]
 pub struct EnvelopeBodies {
     pub kdf: Part,
     pub kdf_parameters: Part,
@@ -39,7 +39,7 @@ pub struct EnvelopeBodies {
 
 // An envelope. Its form, by the keys present, is 0 for NOKEY, 1 for L1ONLY, 2 for L2ONLY, 3 for BOTH, 4 for PUBLIC.
 #[repr(C)]
-#[derive(Drop)]
+#[derive(Clone, Copy)]
 pub struct EnvelopeAnswer {
     pub refusal: u32,
     pub form: u32,

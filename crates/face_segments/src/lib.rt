@@ -11,7 +11,7 @@ use segment::{Segment, SizeRead};
 // A data segment's header: its numbers, how many blocks it has, how many of them are larger than the data unit, and where their sizes
 // stand.
 #[repr(C)]
-#[derive(Drop)]
+#[derive(Clone, Copy)]
 pub struct SegmentAnswer {
     pub refusal: u32,
     pub length: u32,
@@ -29,7 +29,7 @@ pub struct SegmentAnswer {
 
 // The size of a block: found is 1 for a block, 0 for none at that index.
 #[repr(C)]
-#[derive(Drop)]
+#[derive(Clone, Copy)]
 pub struct SizeAnswer {
     pub refusal: u32,
     pub found: u32,

@@ -10,7 +10,7 @@ use refusal::Refusal;
 
 // An identifier: found is 1 where there is one.
 #[repr(C)]
-#[derive(Drop)]
+#[derive(Clone, Copy)]
 pub struct IdentifierAnswer {
     pub refusal: u32,
     pub found: u32,
@@ -19,7 +19,7 @@ pub struct IdentifierAnswer {
 
 // The reading at which an identifier starts.
 #[repr(C)]
-#[derive(Drop)]
+#[derive(Clone, Copy)]
 pub struct StartAnswer {
     pub refusal: u32,
     pub reserved: u32,

@@ -16,7 +16,7 @@ use trace::Recorded;
 
 // A recorded request: verdict is 1 for a sound descriptor, rights are 0 none, 1 public, 2 seed.
 #[repr(C)]
-#[derive(Drop)]
+#[derive(Clone, Copy)]
 pub struct TraceAnswer {
     pub refusal: u32,
     pub verdict: u32,
@@ -28,7 +28,7 @@ pub struct TraceAnswer {
 
 // A total: clocks is 1 where first and last are clocks, else there are none.
 #[repr(C)]
-#[derive(Drop)]
+#[derive(Clone, Copy)]
 pub struct TallyNumbers {
     pub accepted: u64,
     pub refused: u64,
@@ -41,7 +41,7 @@ pub struct TallyNumbers {
 
 // Where a replay stands: the number of the next line, and the total so far.
 #[repr(C)]
-#[derive(Drop)]
+#[derive(Clone, Copy)]
 pub struct ReplayState {
     pub next: u64,
     pub tally: TallyNumbers,
@@ -49,7 +49,7 @@ pub struct ReplayState {
 
 // One record replayed: its answer, its number and the next state; number 0 where a count would not fit in 64 bits.
 #[repr(C)]
-#[derive(Drop)]
+#[derive(Clone, Copy)]
 pub struct ReplayLine {
     pub answer: DecisionAnswer,
     pub number: u64,
@@ -58,7 +58,7 @@ pub struct ReplayLine {
 
 // What was replayed of a chunk: stopped is 1 for no further record, 2 for no room, 3 for a count that would not fit in 64 bits.
 #[repr(C)]
-#[derive(Drop)]
+#[derive(Clone, Copy)]
 pub struct ReplayAnswer {
     pub stopped: u32,
     pub reserved: u32,
@@ -69,7 +69,7 @@ pub struct ReplayAnswer {
 
 // Two totals merged: full is 1 where a count would not fit in 64 bits.
 #[repr(C)]
-#[derive(Drop)]
+#[derive(Clone, Copy)]
 pub struct MergeAnswer {
     pub full: u32,
     pub reserved: u32,

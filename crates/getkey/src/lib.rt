@@ -15,7 +15,7 @@ use request::{Asked, Narrowing, Request, Root};
 use roottable::{Found, Wanted, choose};
 
 // What the caller may be given: nothing, public keys, or seed keys.
-#[derive(Drop)]
+#[derive(Clone, Copy)]
 pub enum Rights {
     None,
     Public,
@@ -23,7 +23,7 @@ pub enum Rights {
 }
 
 // The answer: the identifier granted and the form, with a root row or a root key to create; or the refusal.
-#[derive(Drop)]
+#[derive(Clone, Copy)]
 pub enum Answer {
     Granted { at: Gkid, form: Form, row: usize },
     Create { at: Gkid, form: Form },

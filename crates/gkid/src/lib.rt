@@ -11,7 +11,7 @@ ghost use Rattle.gkid.specs.Older.{older_of};
 use refusal::Refusal;
 
 // A clock reading in ticks, 64-bit.
-#[derive(Drop)]
+#[derive(Clone, Copy)]
 pub struct FileTime(pub u64);
 
 // The three indices of an identifier.
@@ -33,14 +33,14 @@ pub struct Gkid {
 }
 
 // The reading at which an identifier starts, or refusal 5 or 21.
-#[derive(Drop)]
+#[derive(Clone, Copy)]
 pub enum Start {
     At(FileTime),
     Refused(Refusal),
 }
 
 // The next older identifier of an L0 group, or that there is none, or refusal 5.
-#[derive(Drop)]
+#[derive(Clone, Copy)]
 pub enum Older {
     Is(Gkid),
     None,

@@ -12,7 +12,7 @@ use refusal::{Outcome, Refusal};
 use wire::{Span, copy_into, le32_at, put_le32s};
 
 // An accepted entry: the Flags, and where the public key item and the FEK stand, counted from the entry's first byte.
-#[derive(Drop)]
+#[derive(Clone, Copy)]
 pub struct Entry {
     pub flags: u32,
     pub item: Span,
@@ -20,7 +20,7 @@ pub struct Entry {
 }
 
 // What Flags say of the FEK's encryption.
-#[derive(Drop)]
+#[derive(Clone, Copy)]
 pub enum Algorithm {
     Rsa,
     Aes256,
@@ -28,14 +28,14 @@ pub enum Algorithm {
 }
 
 // What reading an entry answers.
-#[derive(Drop)]
+#[derive(Clone, Copy)]
 pub enum EntryRead {
     Accepted(Entry),
     Refused(Refusal),
 }
 
 // The parts of an entry.
-#[derive(Drop)]
+#[derive(Clone, Copy)]
 pub enum EntryPart {
     Item,
     Fek,

@@ -14,28 +14,28 @@ use wire::{Span, le32_at};
 pub mod walk;
 
 // The count of an accepted list; or the refusal, with the index of the entry that it is given for (0 where none is told).
-#[derive(Drop)]
+#[derive(Clone, Copy)]
 pub enum ListRead {
     Count(u32),
     Refused(Refusal, u32),
 }
 
 // Where the record at a place lies, or the refusal that the list rule gives it.
-#[derive(Drop)]
+#[derive(Clone, Copy)]
 pub enum Bounds {
     Record(Span),
     Refused(Refusal),
 }
 
 // Where a walk stands: the offset of the next entry, and its index.
-#[derive(Drop)]
+#[derive(Clone, Copy)]
 pub struct Place {
     pub at: usize,
     pub index: u32,
 }
 
 // An entry of a list: its index, its offset in the list, and what its reader shows, with places counted from its first byte.
-#[derive(Drop)]
+#[derive(Clone, Copy)]
 pub struct Found {
     pub index: u32,
     pub at: usize,
@@ -43,7 +43,7 @@ pub struct Found {
 }
 
 // What a step of the walk finds.
-#[derive(Drop)]
+#[derive(Clone, Copy)]
 pub enum Step {
     Entry(Found),
     End,
@@ -51,7 +51,7 @@ pub enum Step {
 }
 
 // A step, and the place after it.
-#[derive(Drop)]
+#[derive(Clone, Copy)]
 pub struct Advance {
     pub step: Step,
     pub place: Place,

@@ -10,7 +10,7 @@ use gkid::Gkid;
 use refusal::{Outcome, Refusal};
 
 // Which keys an envelope carries: NOKEY, L1ONLY, L2ONLY, BOTH or PUBLIC.
-#[derive(Drop)]
+#[derive(Clone, Copy)]
 pub enum Form {
     Keyless,
     L1Only,
@@ -20,7 +20,7 @@ pub enum Form {
 }
 
 // The seed keys that are present.
-#[derive(Drop)]
+#[derive(Clone, Copy)]
 pub struct SeedKeys {
     pub l1: bool,
     pub l2: bool,

@@ -7,7 +7,7 @@ ghost use Rattle.line.specs.Text.{decimal_of, text_of, behind, buffer, put};
 pub const ROOM: usize = 256;
 
 // A line of text: the first `len` of its bytes.
-#[derive(Drop)]
+#[derive(Clone, Copy)]
 pub struct Line {
     pub bytes: [u8; ROOM],
     pub len: usize,

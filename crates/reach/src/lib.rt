@@ -11,7 +11,7 @@ use keys::{Form, SeedKeys};
 use refusal::{Outcome, Refusal};
 
 // What is reached: the map, or the refusal with every row zero.
-#[derive(Drop)]
+#[derive(Clone, Copy)]
 pub struct Reach {
     outcome: Outcome,
     rows: [u32; 32],

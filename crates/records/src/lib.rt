@@ -10,7 +10,7 @@ use refusal::Refusal;
 pub const LIMIT: usize = 65535;
 
 // What a writer answers: the record's length, or the refusal.
-#[derive(Drop)]
+#[derive(Clone, Copy)]
 pub enum Written {
     Length(usize),
     Refused(Refusal),

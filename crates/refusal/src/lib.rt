@@ -8,7 +8,7 @@ ghost use Rattle.refusal.specs.Chain.{goes_on, refuse_if};
 
 // Document 01, "Refusal numbers": a variant for each row of the table, in its order. Document 02 adds rows: No. 1 the row 25, No. 6 the
 // row 24, No. 7 the row 26.
-#[derive(Drop)]
+#[derive(Clone, Copy)]
 pub enum Refusal {
     // 1: record or list longer than 65,535 bytes
     TooLong,
@@ -100,7 +100,7 @@ impl Refusal {
 }
 
 // What a chain of checks comes to.
-#[derive(Drop)]
+#[derive(Clone, Copy)]
 pub enum Outcome {
     Accepted,
     Refused(Refusal),

@@ -27,14 +27,14 @@ pub const LINE: usize = 128;
 
 // Where a replay stands: the number of the next line, and the total so far. A host that replays a trace in pieces begins each at its own
 // number, with an empty total, and merges the totals.
-#[derive(Drop)]
+#[derive(Clone, Copy)]
 pub struct State {
     pub next: u64,
     pub tally: Tally,
 }
 
 // One record replayed; or a count would not fit in 64 bits.
-#[derive(Drop)]
+#[derive(Clone, Copy)]
 pub enum Stepped {
     Line {
         number: u64,
@@ -45,7 +45,7 @@ pub enum Stepped {
 }
 
 // Why a replay stopped: the chunk has no further record; less than `LINE` bytes of the output are left; a count would not fit in 64 bits.
-#[derive(Drop)]
+#[derive(Clone, Copy)]
 pub enum Stopped {
     Records,
     Room,
@@ -53,7 +53,7 @@ pub enum Stopped {
 }
 
 // What was replayed of a chunk: so many bytes of it were used, and so many of the output written.
-#[derive(Drop)]
+#[derive(Clone, Copy)]
 pub struct Progress {
     pub stopped: Stopped,
     pub used: usize,

@@ -11,14 +11,14 @@ use refusal::Refusal;
 use rootid::RootId;
 
 // The root key that a request names, or none.
-#[derive(Drop)]
+#[derive(Clone, Copy)]
 pub enum Root {
     None,
     Given(RootId),
 }
 
 // A request: the root key or none, and three signed indices, -1 for the latest.
-#[derive(Drop)]
+#[derive(Clone, Copy)]
 pub struct Request {
     pub root: Root,
     pub l0: i32,
@@ -27,14 +27,14 @@ pub struct Request {
 }
 
 // What a request asks for: the latest, or the identifier that it names.
-#[derive(Drop)]
+#[derive(Clone, Copy)]
 pub enum Asked {
     Latest,
     Named(Gkid),
 }
 
 // The indices narrowed: what they ask for, or 14 or 15.
-#[derive(Drop)]
+#[derive(Clone, Copy)]
 pub enum Narrowing {
     Asks(Asked),
     Refused(Refusal),

@@ -14,7 +14,7 @@ pub const ROW_SIZE: usize = 32;
 pub const MOST_ROWS: usize = 64;
 
 // A row of the root table.
-#[derive(Drop)]
+#[derive(Clone, Copy)]
 struct Row {
     id: RootId,
     starts: FileTime,
@@ -22,7 +22,7 @@ struct Row {
 }
 
 // Which rows suit a request: those of a root; any, by use-start; those in use at a time, by create time.
-#[derive(Drop)]
+#[derive(Clone, Copy)]
 pub enum Wanted {
     Root(RootId),
     Newest,
@@ -30,14 +30,14 @@ pub enum Wanted {
 }
 
 // The best of the rows looked at, with its rank, or none.
-#[derive(Drop)]
+#[derive(Clone, Copy)]
 enum Best {
     None,
     Row { row: usize, rank: u64 },
 }
 
 // A row chosen by its place, or none; or 20.
-#[derive(Drop)]
+#[derive(Clone, Copy)]
 pub enum Found {
     None,
     Row(usize),

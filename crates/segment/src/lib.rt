@@ -16,7 +16,7 @@ use wire::{Span, byte_at, le16_at, le32_at, le64_at, put_le32s, put_le64};
 const MOST_BLOCKS: usize = 16376;
 
 // The numbers that a header carries beside its length and its blocks.
-#[derive(Drop)]
+#[derive(Clone, Copy)]
 pub struct Head {
     pub start_offset: u64,
     pub bytes_in_stream: u32,
@@ -28,7 +28,7 @@ pub struct Head {
 
 // An accepted header: its numbers, its length, how many blocks it has and where their sizes stand, and how many of the blocks are
 // larger than the data unit.
-#[derive(Drop)]
+#[derive(Clone, Copy)]
 pub struct Segment {
     pub head: Head,
     pub length: u32,
@@ -38,14 +38,14 @@ pub struct Segment {
 }
 
 // What reading a header answers.
-#[derive(Drop)]
+#[derive(Clone, Copy)]
 pub enum SegmentRead {
     Accepted(Segment),
     Refused(Refusal),
 }
 
 // What asking for the size of one block answers.
-#[derive(Drop)]
+#[derive(Clone, Copy)]
 pub enum SizeRead {
     Size(u32),
     None,

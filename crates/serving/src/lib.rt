@@ -11,21 +11,21 @@ use rootid::RootId;
 use wire::Span;
 
 // A seed envelope's two keys.
-#[derive(Drop)]
+#[derive(Clone, Copy)]
 pub enum SeedKey {
     L1,
     L2,
 }
 
 // Whether an envelope serves an identifier: by which key, which stands where.
-#[derive(Drop)]
+#[derive(Clone, Copy)]
 enum Served {
     By(SeedKey, Span),
     No,
 }
 
 // Which of two envelopes serves, by which key, which stands where in it.
-#[derive(Drop)]
+#[derive(Clone, Copy)]
 pub enum Choice {
     Cached(SeedKey, Span),
     Fetched(SeedKey, Span),

@@ -7,28 +7,28 @@ ghost use Rattle.tally.specs.Merging.{seam, joined_ends, merged_of};
 use gkid::FileTime;
 
 // The clock of a record; a malformed one has none that counts.
-#[derive(Drop)]
+#[derive(Clone, Copy)]
 pub enum Clock {
     None,
     At(FileTime),
 }
 
 // What is counted of one record.
-#[derive(Drop)]
+#[derive(Clone, Copy)]
 pub struct Counted {
     pub accepted: bool,
     pub clock: Clock,
 }
 
 // The first and the last clock that count, or none.
-#[derive(Drop)]
+#[derive(Clone, Copy)]
 pub enum Clocks {
     None,
     Between { first: FileTime, last: FileTime },
 }
 
 // A total.
-#[derive(Drop)]
+#[derive(Clone, Copy)]
 pub struct Tally {
     pub accepted: u64,
     pub refused: u64,
@@ -37,7 +37,7 @@ pub struct Tally {
 }
 
 // Two totals merged; or a count of them does not fit in 64 bits.
-#[derive(Drop)]
+#[derive(Clone, Copy)]
 pub enum Merged {
     Total(Tally),
     Full,

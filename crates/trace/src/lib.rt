@@ -15,7 +15,7 @@ use wire::{be32_at, be64_at};
 pub const LEN: usize = 37;
 
 // A recorded request: when it was made, with which rights and verdict, and what it asked.
-#[derive(Drop)]
+#[derive(Clone, Copy)]
 pub struct Recorded {
     pub clock: FileTime,
     pub rights: Rights,
@@ -23,7 +23,7 @@ pub struct Recorded {
     pub request: Request,
 }
 
-#[derive(Drop)]
+#[derive(Clone, Copy)]
 pub enum RecordRead {
     Accepted(Recorded),
     Refused(Refusal),
