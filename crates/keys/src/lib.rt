@@ -1,5 +1,7 @@
 // Document 01, "Group Key Envelope", 11, with the house rule of document 02, No. 4, and "The GetKey decision", Form: the rule on the
 // lengths of an envelope's two keys, a key written, and the forms, which say what keys there are.
+#![tactic(auto)]
+
 ghost use Rattle.std.specs.Prelude.{◌≡◌, false, not};
 ghost use Rattle.refusal.specs.Chain.{first_of};
 ghost use Rattle.wire.specs.Parts.{onto};

@@ -45,7 +45,7 @@ is_terminated (a ∷ b ∷ s) e =
           before = suc w.before;
           units = omega (arith, w.units);
           last = unit-later a b s w.before ∙ w.last;
-          earlier = λ k. elim k [ zero ↦ (λ h q. true≢false (sym (unit-zero a b (sym (unit_first a b s) ∙ q)) ∙ z)) | suc j ↦ (λ h q. w.earlier j (omega arith) (sym (unit-later a b s j) ∙ q)) ];
+          earlier = λ k. elim k as (λ k. k < suc w.before → unit (a ∷ b ∷ s) k ≡ 0 → ⊥) [ zero ↦ (λ h q. true≢false (sym (unit-zero a b (sym (unit_first a b s) ∙ q)) ∙ z)) | suc j ↦ (λ h q. w.earlier j (omega arith) (sym (unit-later a b s j) ∙ q)) ];
         }
 
 -- And back.

@@ -67,7 +67,7 @@ neighbours_of (one {u} {us} out rest) =
     let n = neighbours_of rest in
     record {
       first = outside 0xDC00 u 0xDFFF (omega arith) (omega arith) out;
-      next = λ k. elim k [ zero ↦ outside 0xD800 u 0xDBFF (omega arith) (omega arith) out ∙ sym n.first | suc j ↦ n.next j ];
+      next = λ k. elim k as (λ k. is_high (get_or (u ∷ us) k 0) ≡ is_low (get_or (u ∷ us) (suc k) 0)) [ zero ↦ outside 0xD800 u 0xDBFF (omega arith) (omega arith) out ∙ sym n.first | suc j ↦ n.next j ];
     }
 neighbours_of (pair {high} {low} {us} is-high is-low rest) =
     let n = neighbours_of rest in
@@ -75,7 +75,11 @@ neighbours_of (pair {high} {low} {us} is-high is-low rest) =
     let l = range_in 0xDC00 low 0xDFFF is-low in
     record {
       first = high_not_low high h;
-      next = λ k. elim k [ zero ↦ h ∙ sym l | suc j ↦ elim j [ zero ↦ low_not_high low l ∙ sym n.first | suc i ↦ n.next i ] ];
+      next = λ k.
+          elim k as (λ k. is_high (get_or (high ∷ low ∷ us) k 0) ≡ is_low (get_or (high ∷ low ∷ us) (suc k) 0)) [
+            | zero ↦ h ∙ sym l
+            | suc j ↦ elim j as (λ j. is_high (get_or (low ∷ us) j 0) ≡ is_low (get_or (low ∷ us) (suc j) 0)) [ zero ↦ low_not_high low l ∙ sym n.first | suc i ↦ n.next i ]
+          ];
     }
 
 -- No surrogate is unpaired, so neighbours are so; and back.

@@ -1,4 +1,6 @@
 // Document 01, "Group Key Envelope", and document 02, No. 6: the rule that the four texts of an envelope follow, and a text written.
+#![tactic(auto)]
+
 ghost use Rattle.std.specs.Prelude.{◌≡◌};
 ghost use Rattle.refusal.specs.Chain.{first_of};
 ghost use Rattle.wire.specs.Parts.{onto};

@@ -1,8 +1,7 @@
 -- `SeedKeys::are_barred`: not allowed, for keys of 64 bytes.
 use Rattle.lemmas.proofs.Basics.{Bool, true, false, not, ◌&&◌, ◌||◌, ◌≡◌, refl, eqb}
 use Rattle.keys.proofs.FormLaws.{seed_keys_lem}
-use Rattle.keys.proofs.SeedKeys.are_barred.Statement.{statement}
-use Rattle.keys.proofs.SeedKeys.are_barred.Tie as tie
+use Rattle.keys.proofs.SeedKeys.are_barred.Goals as goal
 
 barred : (l1 first last l2 : Bool) → l1 && first && not last || l2 && last ≡ not (not (l1 && (first && not last)) && not (l2 && last))
 barred true true true true = refl
@@ -17,10 +16,6 @@ barred false first true false = refl
 barred false first false true = refl
 barred false first false false = refl
 
-returns : tie.Need-returns
+pub returns : goal.returns
 returns c =
-    let a = c.before.before.before.before.args in
-    rw (seed_keys_lem a.self a.at) (barred a.self.l1 (eqb a.at.l1.0 0) (eqb a.at.l2.0 31) a.self.l2)
-
-pub are-barred-spec : {M : Type 1} → statement M
-are-barred-spec = tie.close (tie.spec returns)
+    rw (seed_keys_lem c.args.self c.args.at) (barred c.args.self.l1 (eqb c.args.at.l1.0 0) (eqb c.args.at.l2.0 31) c.args.self.l2)
