@@ -1,6 +1,10 @@
 // The whole of an input, read into a lent buffer.
+#![tactic(auto)]
+
 ghost use Rattle.std.specs.Prelude.{◌≤◌, length};
 ghost use Rattle.input.specs.Counts.{count_of};
+
+use std::io::Read;
 
 // What reading came to: so many bytes at the start of the buffer, or a read that failed.
 #[derive(Clone, Copy)]
@@ -11,16 +15,14 @@ pub enum Input {
 
 // Reads until the input ends, the buffer is full or a read fails: a longer input just fills the buffer. Which bytes are read no
 // contract can say.
-pub fn read_all(fd: i32, buffer: &mut [u8]) -> Input
+pub fn read_all<R: Read>(from: &mut R, buffer: &mut [u8]) -> Input
     ensures { count_of result ≤ length buffer.new }
 {
     let mut at = 0;
     while at < buffer.len() {
-        let got = libc::read(fd, &mut buffer[at..]);
-        if got < 0 {
+        let Ok(more) = from.read(&mut buffer[at..]) else {
             return Input::Failed;
-        }
-        let more = io::count(got, &buffer[at..]);
+        };
         if more == 0 {
             return Input::Bytes(at);
         }
