@@ -12,7 +12,7 @@ use std::io;
 use wire::Span;
 
 // An envelope of len bytes at (5, l1, l2), under the root of that low half.
-#[derive(Drop)]
+#[derive(Clone, Copy)]
 struct Held {
     len: usize,
     root: u64,

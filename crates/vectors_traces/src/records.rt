@@ -101,30 +101,36 @@ fn tables(rt: &impl Print) -> io::Result<()> {
 
 fn table_of_33(rt: &impl Print, name: &[u8], flags: u8) -> io::Result<()> {
     let s = recorded(NOW, flags, LATEST, LATEST, LATEST);
-    told(rt, name, &[0; 33], &s)
+    told(rt, name, &[0; 33], &s)?;
+    Ok(())
 }
 
 fn no_row(rt: &impl Print, name: &[u8], l0: u32, l1: u32, l2: u32) -> io::Result<()> {
     let s = recorded(NOW, 0x50, l0, l1, l2);
-    told(rt, name, &[0; 0], &s)
+    told(rt, name, &[0; 0], &s)?;
+    Ok(())
 }
 
 fn asked(rt: &impl Print, name: &[u8], flags: u8, l0: u32, l1: u32, l2: u32) -> io::Result<()> {
     let s = recorded(NOW, flags, l0, l1, l2);
-    told(rt, name, &[0; 32], &s)
+    told(rt, name, &[0; 32], &s)?;
+    Ok(())
 }
 
 fn with_root(rt: &impl Print, name: &[u8], flags: u8, at: usize, bits: u8) -> io::Result<()> {
     let mut s = recorded(NOW, flags, LATEST, LATEST, LATEST);
     cases::bytes(&mut s, at, &[bits]);
-    told(rt, name, &[0; 32], &s)
+    told(rt, name, &[0; 32], &s)?;
+    Ok(())
 }
 
 fn timed(rt: &impl Print, name: &[u8], clock: u64) -> io::Result<()> {
     let s = recorded(clock, 0x50, LATEST, LATEST, LATEST);
-    told(rt, name, &[0; 32], &s)
+    told(rt, name, &[0; 32], &s)?;
+    Ok(())
 }
 
 fn cut(rt: &impl Print, name: &[u8], s: &[u8]) -> io::Result<()> {
-    told(rt, name, &[0; 32], s)
+    told(rt, name, &[0; 32], s)?;
+    Ok(())
 }
