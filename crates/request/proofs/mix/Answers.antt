@@ -1,8 +1,7 @@
 -- `mix`: some hold and not all, where two neighbours differ.
 use Rattle.lemmas.proofs.Basics.{Bool, true, false, not, ◌&&◌, ◌||◌, ◌≡◌, refl}
 use mathlib.Core.Bool.{beq}
-use Rattle.request.proofs.mix.Statement.{statement}
-use Rattle.request.proofs.mix.Tie as tie
+use Rattle.request.proofs.mix.Goals as goal
 
 differ : (a b c : Bool) → not (beq a b) || not (beq b c) ≡ (a || (b || c)) && not (a && (b && c))
 differ true true true = refl
@@ -12,5 +11,5 @@ differ false true c = refl
 differ false false true = refl
 differ false false false = refl
 
-pub mix-spec : {M : Type 1} → statement M
-mix-spec = tie.close (tie.spec (λ c. differ c.args.a c.args.b c.args.c))
+pub returns : goal.returns
+returns c = differ c.args.a c.args.b c.args.c

@@ -2,9 +2,8 @@
 use Rattle.lemmas.proofs.Basics.{refl}
 use Rattle.reach.specs.Maps.{empty_map}
 use Rattle.reach.specs.Reaches.{refused_reach}
-use Rattle.reach.proofs.Reach.refused.Statement.{statement}
-use Rattle.reach.proofs.Reach.refused.Tie as tie
+use Rattle.reach.proofs.Reach.refused.Goals as goal
 
-pub refused-spec : {M : Type 1} → statement M
+pub returns : goal.returns
 unfolding refused_reach empty_map
-refused-spec = tie.close (tie.spec (λ c. refl))
+returns c = refl
