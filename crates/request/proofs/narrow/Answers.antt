@@ -10,9 +10,3 @@ returns-then-index-ge0 c =
 
 pub returns-else-index-ge0 : goal.returns-else-index-ge0
 returns-else-index-ge0 c = negative _ (rw (to_z-of_z c.ranges.index) at c.if-index-ge0.false)
-
--- LOST: cast-result : tie.Need-overflow-cast-result
--- cast-result c =
---     let index = c.before.args.index in
---     let back = to_z-of_z c.before.ranges.index in
---     rw back (narrows index c.before.ranges.index (rw back at c.if1.true)).allowed
