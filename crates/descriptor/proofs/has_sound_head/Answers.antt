@@ -5,7 +5,6 @@ use Rattle.descriptor.proofs.has_sound_head.Goals as goal
 
 ruleset tests = (lt-leb, le-leb, eq-eqb, ne_eqb, rules)
 
--- `has_sound_head`: one test after the other, on the numbers as they were read.
 pub returns-then-s-gt-LIMIT : goal.returns-then-s-gt-LIMIT
 unfolding head_sound
 returns-then-s-gt-LIMIT c = search tests

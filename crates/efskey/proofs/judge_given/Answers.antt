@@ -15,19 +15,19 @@ returns-then-grown-gt-LIMIT c =
 pub returns-then-certificate-eq0 : goal.returns-then-certificate-eq0
 unfolding first_of
 returns-then-certificate-eq0 c =
-    let within : (efs_key_length c.args.sid.now c.args.certificate.now ≤ 65535) = omega arith in
+    let within : efs_key_length c.args.sid.now c.args.certificate.now ≤ 65535 = omega arith in
     sym (write_checks_lem _ _ ∙ rw (le-ltb 65535 _ (within), eq-eqb _ _ c.if-certificate-eq0.true))
 
 pub returns-in-Holds : goal.returns-in-Holds
 unfolding first_of
 returns-in-Holds c =
     let said : (Says (offset_for (length c.args.sid.now)) c.args.sid.now c.of.result) = rw (c.of.ensures, c.offset_for.ensures) (area_says _ _) in
-    let within : (efs_key_length c.args.sid.now c.args.certificate.now ≤ 65535) = omega arith in
+    let within : efs_key_length c.args.sid.now c.args.certificate.now ≤ 65535 = omega arith in
     sym (write_checks_lem _ _ ∙ rw (le-ltb 65535 _ (within), ne_eqb _ _ c.if-certificate-eq0.false, (rw c.in-Holds.is at (said)).0))
 
 pub returns-in-Malformed : goal.returns-in-Malformed
 unfolding first_of
 returns-in-Malformed c =
     let said : (Says (offset_for (length c.args.sid.now)) c.args.sid.now c.of.result) = rw (c.of.ensures, c.offset_for.ensures) (area_says _ _) in
-    let within : (efs_key_length c.args.sid.now c.args.certificate.now ≤ 65535) = omega arith in
+    let within : efs_key_length c.args.sid.now c.args.certificate.now ≤ 65535 = omega arith in
     sym (write_checks_lem _ _ ∙ rw (le-ltb 65535 _ (within), ne_eqb _ _ c.if-certificate-eq0.false, rw c.in-Malformed.is at (said)))

@@ -17,7 +17,6 @@ pub returns-then-len-lt32 : goal.returns-then-len-lt32
 unfolding head_checks first_of
 returns-then-len-lt32 c = search tests
 
--- `judge_head`: one check after the other, on the numbers as they were read; the three that give 6 are one test.
 pub returns-then-do_disagree : goal.returns-then-do_disagree
 unfolding head_checks first_of
 returns-then-do_disagree c =

@@ -21,7 +21,7 @@ returns-then-out-len c =
 
 pub put-requires : goal.put-requires
 put-requires c =
-    let fits : (efs_key_length c.args.sid.now c.args.certificate.now ≤ 65535) = within_limit _ _ (sym c.judge_given.ensures ∙ c.in_default.is) in
+    let fits : efs_key_length c.args.sid.now c.args.certificate.now ≤ 65535 = within_limit _ _ (sym c.judge_given.ensures ∙ c.in_default.is) in
     (fits, c.if-out-len.false)
 
 pub returns : goal.returns

@@ -22,7 +22,6 @@ pub returns-then-is_outside : goal.returns-then-is_outside
 unfolding item_checks first_of
 returns-then-is_outside c = search (sym c.is_outside.ensures ∙ c.if-is_outside.true, tests)
 
--- `judge_items`: one check after the other, then the runs.
 pub returns : goal.returns
 unfolding item_checks first_of
 returns c =

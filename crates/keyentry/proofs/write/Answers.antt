@@ -22,7 +22,7 @@ returns-then-out-len c =
 
 pub put-requires : goal.put-requires
 put-requires c =
-    let fits : (entry_length c.args.item.now c.args.fek.now ≤ 65535) =
+    let fits : entry_length c.args.item.now c.args.fek.now ≤ 65535 =
     within_limit 0 _ _ (sym (c.judge_given.ensures 0) ∙ c.in_default.is) in
     (fits, c.if-out-len.false)
 

@@ -5,7 +5,6 @@ use Rattle.keylist.proofs.finish.Goals as goal
 
 ruleset tests = (eq-eqb, ne_eqb, rules)
 
--- `finish`: the end, or the bytes left.
 pub returns-then-place-list : goal.returns-then-place-list
 unfolding end_at arrived place_after
 returns-then-place-list c = c.stay.ensures ∙ search tests

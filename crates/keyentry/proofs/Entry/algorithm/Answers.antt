@@ -5,7 +5,7 @@ use Rattle.keyentry.proofs.Entry.algorithm.Goals as goal
 
 pub returns-then-self-eq0 : goal.returns-then-self-eq0
 unfolding algorithm_of
-returns-then-self-eq0 c = search (eq-eqb, ne_eqb)
+returns-then-self-eq0 c = search eq-eqb
 
 pub returns-then-self-eq1 : goal.returns-then-self-eq1
 unfolding algorithm_of
@@ -13,4 +13,4 @@ returns-then-self-eq1 c = search (eq-eqb, ne_eqb)
 
 pub returns : goal.returns
 unfolding algorithm_of
-returns c = search (eq-eqb, ne_eqb)
+returns c = search ne_eqb
