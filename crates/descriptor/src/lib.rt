@@ -1,5 +1,7 @@
 // Document 02, No. 5: whether bytes are a sound self-relative security descriptor (MS-DTYP 2.4.6), for the GetKey decision. Nothing else is
 // judged: other control bits, reserved fields, types, sizes that are no multiple of 4, and bytes that no item covers may be anything.
+#![tactic(auto)]
+
 ghost use Rattle.std.specs.Prelude.{◌≡◌};
 ghost use Rattle.sid.specs.Rule.{starts_sid};
 ghost use Rattle.descriptor.specs.Checking.{entries_fit, starts_acl, names, head_sound, finding_of, finding_number, is_sound};

@@ -1,4 +1,6 @@
 // Document 01, "EfsKey" (MS-GPEF 2.2.1.2.2), with No. 2 of document 02: read and written.
+#![tactic(auto)]
+
 ghost use Rattle.std.specs.Prelude.{◌≡◌, ◌||◌, ◌+◌, ◌-◌, ◌≤◌, length};
 ghost use Rattle.refusal.specs.Chain.{first_of};
 ghost use Rattle.wire.specs.Parts.{onto};

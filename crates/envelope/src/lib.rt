@@ -1,4 +1,6 @@
 // Document 01, "Group Key Envelope" (MS-GKDI 2.2.4), read and written.
+#![tactic(auto)]
+
 ghost use Rattle.std.specs.Prelude.{◌≡◌, ◌++◌, ◌+◌, ◌≤◌, min, length};
 ghost use Rattle.refusal.specs.Chain.{first_of};
 ghost use Rattle.wire.specs.Parts.{part_of, onto, joined};

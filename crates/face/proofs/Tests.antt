@@ -1,4 +1,4 @@
 -- The tests on codes, as a search reads them.
-use Rattle.lemmas.proofs.Basics.{needs, eq-eqb, ne_eqb}
+use Rattle.lemmas.proofs.Basics.{rules, eq-eqb, ne_eqb}
 
-pub ruleset tests = (eq-eqb, ne_eqb, needs)
+pub ruleset tests = (eq-eqb, ne_eqb, rules)

@@ -1,5 +1,7 @@
 // What the answers and the arguments of the C face share: shapes, and the codes by which a host names a case. 0 is none, refused
 // or the weakest; real cases count from 1; a code that is not listed is the weakest one.
+#![tactic(auto)]
+
 ghost use Rattle.std.specs.Prelude.{◌≡◌};
 ghost use Rattle.face.specs.Codes.{form_code, form_from, bool_code};
 ghost use Rattle.face.specs.Shapes.{part_shown, identifier_shown, gkid_from, root_id_from, root_shown, written_answer};

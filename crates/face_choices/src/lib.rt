@@ -1,4 +1,6 @@
 // Document 01, "Reach, and the two envelopes", as C has its answers.
+#![tactic(auto)]
+
 ghost use Rattle.std.specs.Prelude.{◌≡◌};
 ghost use Rattle.face.specs.Shapes.{part_shown};
 ghost use Rattle.face_choices.specs.Choices.{key_code, reach_answer, choice_answer};

@@ -1,4 +1,6 @@
 // Document 01, "EfsKey", with No. 2 of document 02, as C has its answer: one function for each way that it ends.
+#![tactic(auto)]
+
 ghost use Rattle.std.specs.Prelude.{◌≡◌};
 ghost use Rattle.efskey.specs.declared.EfsKeyRead.TheVariants.{Accepted, Refused};
 ghost use Rattle.face_efskeys.specs.EfsKeys.{efs_key_answer};

@@ -1,4 +1,6 @@
 // Document 01, "Key List Entry and list", as C has its answers: the entry, the list judged whole, and one step of its walk.
+#![tactic(auto)]
+
 ghost use Rattle.std.specs.Prelude.{◌≡◌};
 ghost use Rattle.keyentry.specs.declared.EntryRead.TheVariants as read;
 ghost use Rattle.face_entries.specs.Entries.{algorithm_code, entry_answer};

@@ -1,4 +1,6 @@
 // Document 01, "Group Key Envelope", as C has its answer, and the head as C hands it in.
+#![tactic(auto)]
+
 ghost use Rattle.std.specs.Prelude.{◌≡◌};
 ghost use Rattle.envelope.specs.declared.EnvelopeRead.TheVariants as read;
 ghost use Rattle.face_envelopes.specs.Envelopes.{head_shown, head_from, bodies_shown, envelope_answer};

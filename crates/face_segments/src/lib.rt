@@ -1,5 +1,7 @@
 // Document 02, No. 1, as C has its answers: a data segment's header, one function for each way that it ends, and the size of one of
 // its blocks.
+#![tactic(auto)]
+
 ghost use Rattle.std.specs.Prelude.{◌≡◌};
 ghost use Rattle.segment.specs.declared.SegmentRead.TheVariants.{Accepted, Refused};
 ghost use Rattle.face_segments.specs.Segments.{segment_answer, size_answer};

@@ -1,4 +1,6 @@
 // Document 01, "Time and identifiers", as C has its answers.
+#![tactic(auto)]
+
 ghost use Rattle.std.specs.Prelude.{◌≡◌};
 ghost use Rattle.gkid.specs.declared.Older.TheVariants.{None, Refused};
 ghost use Rattle.face.specs.Shapes.{no_identifier};

@@ -1,5 +1,7 @@
 // Document 01, "The GetKey decision" (MS-GKDI 3.1.4.1): from a security descriptor or the verdict on it, rights, a request, a clock reading
 // and the root table to the identifier granted, the form and the root row, or the refusal.
+#![tactic(auto)]
+
 ghost use Rattle.std.specs.Prelude.{◌≡◌, ℕ, ◌<◌, ◌^◌, take};
 ghost use Rattle.refusal.specs.Chain.{first_of};
 ghost use Rattle.gkid.specs.Identifier.{InGroup};

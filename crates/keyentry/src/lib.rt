@@ -1,4 +1,6 @@
 // Document 01, "Key List Entry and list": the Key List Entry (MS-EFSR 2.2.2.1.2), read and written.
+#![tactic(auto)]
+
 ghost use Rattle.std.specs.Prelude.{◌≡◌, ℕ, ◌+◌, ◌≤◌, length};
 ghost use Rattle.refusal.specs.Chain.{first_of};
 ghost use Rattle.wire.specs.Parts.{onto};

@@ -1,4 +1,6 @@
 // Document 01, "Key List Entry and list": a list of Key List Entries, judged whole and walked entry by entry.
+#![tactic(auto)]
+
 ghost use Rattle.std.specs.Prelude.{◌≡◌, ◌+◌, ◌≤◌, length};
 ghost use Rattle.refusal.specs.Chain.{first_of};
 ghost use Rattle.refusal.specs.Number.{outcome_number};

@@ -57,7 +57,8 @@ length-put bytes piece len =
     by_cases (λ _. length (put (buffer bytes len) piece).bytes ≡ length bytes) (leb (len + length piece) (length bytes))
     (λ q. let fits = leb-true _ _ q in
     let size : length (take len bytes) ≡ len = length-take-le len bytes (omega arith) in
-    ap (λ b. length b.bytes) (put_in bytes piece len fits) ∙ rw (length-append, length-append, length-drop) (omega arith))
+    let whole : length (take len bytes ++ (piece ++ drop (len + length piece) bytes)) ≡ length bytes = rw (length-append, length-append, length-drop) (omega arith) in
+    ap (λ b. length b.bytes) (put_in bytes piece len fits) ∙ whole)
     (λ q. ap (λ b. length b.bytes) (put_out bytes piece len (leb-false _ _ q)))
 
 pub put-append : (b : Buffer) (pieces others : List (List ℕ)) → put_all (put_all b pieces) others ≡ put_all b (pieces ++ others)

@@ -1,5 +1,7 @@
 // Text put together from pieces, byte strings and numbers in decimal: in lent bytes, or in a line that goes by value. Every function
 // is total: a piece that does not fit is left out.
+#![tactic(auto)]
+
 ghost use Rattle.std.specs.Prelude.{◌≡◌, []};
 ghost use Rattle.line.specs.Text.{decimal_of, text_of, behind, buffer, put};
 

@@ -1,5 +1,7 @@
 // Document 01, "Reach, and the two envelopes": what keys reach, the reach as a map of 32 rows of 32 bits, its total, and the reach of
 // a form. The map's rows are this crate's own: others build and read a `Reach` by its functions.
+#![tactic(auto)]
+
 ghost use Rattle.std.specs.Prelude.{◌≡◌, leb};
 ghost use Rattle.reach.specs.Reached.{of_group, l1_reaches, l2_reaches};
 ghost use Rattle.reach.specs.Bits.{row_where};

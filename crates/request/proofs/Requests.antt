@@ -28,9 +28,9 @@ narrowed_asks q h e = rw (h, e)
 
 -- The number is that of the checks, and where they are accepted, what is named is shown.
 pub narrowed_shows : (q : Request) {r : Narrowing} → r ≡ narrowed_of q
-    → (r ≡ narrowed_of q) × ((narrowed_number r ≡ outcome_number (first_of (index_checks q))) × (narrowed_number r ≡ 0 → (narrowed_names r ≡ names q) × (narrowed_shown r ≡ named_or_zeros q)))
+    → record { answer : r ≡ narrowed_of q; number : narrowed_number r ≡ outcome_number (first_of (index_checks q)); shown : narrowed_number r ≡ 0 → (narrowed_names r ≡ names q) × (narrowed_shown r ≡ named_or_zeros q) }
 unfolding narrowed_of narrowed_number narrowed_names narrowed_shown named_or_zeros unless_refused outcome_number
-narrowed_shows q e = rw e (refl, of (first_of (index_checks q)) (names q) (named_of q))
+narrowed_shows q e = rw e (let told = of (first_of (index_checks q)) (names q) (named_of q) in record { answer = refl; number = told.0; shown = told.1 })
   where
     of : (o : Outcome) (n : Bool) (i : Gkid) → let r = unless_refused narrowing.Refused o (narrowing.Asks (cond n (Named i) Latest)) in
         (narrowed_number r ≡ outcome_number o) × (narrowed_number r ≡ 0 → (narrowed_names r ≡ n) × (narrowed_shown r ≡ cond n i (gkid 0 0 0)))

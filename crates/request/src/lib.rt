@@ -1,4 +1,6 @@
 // Document 01, "The GetKey decision" (MS-GKDI 3.1.4.1): a request for a group key, with three signed indices, and what it asks for.
+#![tactic(auto)]
+
 ghost use Rattle.std.specs.Prelude.{◌≡◌, not, ◌&&◌, ◌||◌};
 ghost use Rattle.std.specs.Int.Signed.{non_neg};
 ghost use Rattle.refusal.specs.Chain.{first_of};

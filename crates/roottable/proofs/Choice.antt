@@ -172,9 +172,12 @@ shows n suits height false (found.Row k) s = (refl, λ _. s.within)
 shows n suits height false (found.Refused r) s = absurd s
 
 pub row_shows : (wanted : Wanted) (table : List ℕ) {f : Found} → f ≡ chosen_row wanted table
-    → (f ≡ chosen_row wanted table) × ((found_number f ≡ table_number table) × (found_any f ≡ true → found_row f < row_count table))
+    → record { answer : f ≡ chosen_row wanted table; number : found_number f ≡ table_number table; row : found_any f ≡ true → found_row f < row_count table }
 unfolding chosen_row table_number
-row_shows wanted table e = rw e (refl, shows _ _ _ (table_wrong (length table)) _ (first_highest_lem (row_count table) (suits wanted table) (ranks wanted table)))
+row_shows wanted table e =
+    rw e
+    (let told = shows _ _ _ (table_wrong (length table)) _ (first_highest_lem (row_count table) (suits wanted table) (ranks wanted table)) in
+    record { answer = refl; number = told.0; row = told.1 })
 
 -- And the best of all rows is that row.
 pub best_row : (wanted : Wanted) (table : List ℕ) (b : Best) → table_wrong (length table) ≡ false

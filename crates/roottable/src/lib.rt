@@ -1,4 +1,6 @@
 // Document 01, "The GetKey decision": the root table, rows of 32 bytes, and the choice of a row, in one pass.
+#![tactic(auto)]
+
 ghost use Rattle.std.specs.Prelude.{◌≡◌, true, ◌<◌};
 ghost use Rattle.roottable.specs.Rows.{row_at, row_count, suitable, rank, table_wrong};
 ghost use Rattle.roottable.specs.Selection.{table_number, chosen_row, found_number, found_any, found_row};

@@ -1,4 +1,6 @@
 // Document 02, No. 1: the Data Segment Encryption Header (MS-EFSR 2.2.3.3), read and written.
+#![tactic(auto)]
+
 ghost use Rattle.std.specs.Prelude.{◌≡◌, ◌+◌, ◌*◌, ◌^◌, ◌≤◌, length};
 ghost use Rattle.refusal.specs.declared.Outcome.TheVariants.{Accepted};
 ghost use Rattle.refusal.specs.Chain.{first_of};

@@ -1,4 +1,6 @@
 // Document 01, "Reach, and the two envelopes": the reach of an envelope, and which of two envelopes serves an identifier.
+#![tactic(auto)]
+
 ghost use Rattle.std.specs.Prelude.{◌≡◌, ◌+◌};
 ghost use Rattle.envelope.specs.Reading.{envelope_of};
 ghost use Rattle.serving.specs.Reach.{envelope_reach};

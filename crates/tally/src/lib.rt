@@ -1,5 +1,7 @@
 // Document 02, No. 7: the total of a trace: accepted, refused, and times the clock was earlier than in the last record before. Totals
 // of traces that follow each other are merged.
+#![tactic(auto)]
+
 ghost use Rattle.std.specs.Prelude.{◌≡◌, [], ◌∷◌, ◌+◌, ◌^◌, ltb};
 ghost use Rattle.tally.specs.Totals.{with_clock, ends_of, tally_of};
 ghost use Rattle.tally.specs.Merging.{seam, joined_ends, merged_of};

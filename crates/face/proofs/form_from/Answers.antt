@@ -1,0 +1,18 @@
+-- `form_from`: the codes in turn.
+use Rattle.face.proofs.Tests.{tests}
+use Rattle.face.proofs.form_from.Goals as goal
+
+pub returns-then-code-eq1 : goal.returns-then-code-eq1
+returns-then-code-eq1 c = search tests
+
+pub returns-then-code-eq2 : goal.returns-then-code-eq2
+returns-then-code-eq2 c = search tests
+
+pub returns-then-code-eq3 : goal.returns-then-code-eq3
+returns-then-code-eq3 c = search tests
+
+pub returns-then-code-eq4 : goal.returns-then-code-eq4
+returns-then-code-eq4 c = search tests
+
+pub returns : goal.returns
+returns c = search tests

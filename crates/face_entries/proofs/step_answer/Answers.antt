@@ -1,0 +1,17 @@
+-- `step_answer`: what was found is told.
+use Rattle.keylist.specs.Stepping.{step_number, step_index, step_found}
+use Rattle.face_entries.specs.Lists.{found_code, step_algorithm, step_answer}
+use Rattle.lemmas.proofs.Basics.{rules}
+use Rattle.face_entries.proofs.step_answer.Goals as goal
+
+pub returns-in-Entry : goal.returns-in-Entry
+unfolding step_answer step_number found_code step_index step_algorithm step_found
+returns-in-Entry c = rw (c.in-Entry.is, c.to_part-in-Entry.ensures, c.to_part.ensures, c.algorithm_code.ensures, c.algorithm.ensures)
+
+pub returns-in-End : goal.returns-in-End
+unfolding step_answer step_number found_code step_index step_algorithm step_found
+returns-in-End c = rw c.in-End.is c.no_entry.ensures
+
+pub returns-in-Refused : goal.returns-in-Refused
+unfolding step_answer step_number found_code step_index step_algorithm step_found
+returns-in-Refused c = rw (c.in-Refused.is, c.no_entry-in-Refused.ensures, c.number.ensures)

@@ -1,0 +1,8 @@
+-- `Reach::number`: that of the outcome.
+use Rattle.lemmas.proofs.Basics.{rules}
+use Rattle.reach.specs.Reaches.{reach_number}
+use Rattle.reach.proofs.Reach.number.Goals as goal
+
+pub returns : goal.returns
+unfolding reach_number
+returns c = c.number.ensures

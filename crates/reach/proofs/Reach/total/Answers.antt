@@ -1,0 +1,8 @@
+-- `Reach::total`: that of the rows.
+use Rattle.lemmas.proofs.Basics.{rules}
+use Rattle.reach.specs.Reaches.{reach_total}
+use Rattle.reach.proofs.Reach.total.Goals as goal
+
+pub returns : goal.returns
+unfolding reach_total
+returns c = c.total.ensures

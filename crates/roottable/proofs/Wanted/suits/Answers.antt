@@ -1,0 +1,16 @@
+-- `Wanted::suits`: by cases.
+use Rattle.roottable.specs.Rows.{suitable}
+use Rattle.lemmas.proofs.Basics.{rules}
+use Rattle.roottable.proofs.Wanted.suits.Goals as goal
+
+pub returns-in-Root : goal.returns-in-Root
+unfolding suitable
+returns-in-Root c = rw c.in-Root.is c.is.ensures
+
+pub returns-in-Newest : goal.returns-in-Newest
+unfolding suitable
+returns-in-Newest c = rw c.in-Newest.is
+
+pub returns-in-InUse : goal.returns-in-InUse
+unfolding suitable
+returns-in-InUse c = rw c.in-InUse.is

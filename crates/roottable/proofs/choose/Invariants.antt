@@ -1,0 +1,11 @@
+use Rattle.lemmas.proofs.Basics.{◌-◌, ◌≤◌, arith, add-one, ◌≡◌, sym, ap, ◌∙◌, rules}
+use Rattle.roottable.specs.Rows.{row_count}
+use Rattle.roottable.specs.Selection.{chosen_row}
+use Rattle.roottable.proofs.Choice.{BestSays, place, step_says, suits, ranks, best_row, row_shows}
+use Rattle.roottable.proofs.choose.Given as goal
+
+abbrev pub invariant-loop-k : goal.invariant-loop-k
+invariant-loop-k l = (l.k ≤ l.rows) × BestSays l.k (suits l.wanted l.table) (ranks l.wanted l.table) l.best
+
+abbrev pub decreases-loop-k : goal.decreases-loop-k
+decreases-loop-k l = l.rows - l.k

@@ -1,0 +1,12 @@
+-- `step`: the row, where it counts.
+use Rattle.roottable.specs.Passing.{step_of}
+use Rattle.lemmas.proofs.Basics.{rules}
+use Rattle.roottable.proofs.step.Goals as goal
+
+pub returns-then-suits : goal.returns-then-suits
+unfolding step_of
+returns-then-suits c = rw (← c.row_at-row.ensures, ← c.suits.ensures, c.if-suits.true, ← c.rank_of.ensures) c.or_better.ensures
+
+pub returns : goal.returns
+unfolding step_of
+returns c = rw (← c.row_at-row.ensures, ← c.suits.ensures, c.if-suits.false)

@@ -1,0 +1,22 @@
+-- `size`: the judge's refusal, none beyond the count, or the size at its place.
+use Rattle.lemmas.proofs.Basics.{◌≤◌, ◌<◌, arith, lt-ltb, le-ltb}
+use Rattle.refusal.specs.Chain.{unless_refused}
+use Rattle.segment.specs.Layout.{block_count, size_at}
+use Rattle.segment.specs.Reading.{size_of}
+use Rattle.segment.proofs.size.Goals as goal
+
+pub returns-in-Refused : goal.returns-in-Refused
+unfolding size_of unless_refused
+returns-in-Refused c = rw (← c.judge.ensures, c.in-Refused.is)
+
+pub returns-then-le16_at-index : goal.returns-then-le16_at-index
+unfolding size_of unless_refused
+returns-then-le16_at-index c =
+    let past : block_count c.args.s.now ≤ c.args.index = omega (arith, c.le16_at.ensures, c.if-le16_at-index.true) in
+    rw (← c.judge.ensures, c.in_default.is, le-ltb c.args.index _ past)
+
+pub returns : goal.returns
+unfolding size_of unless_refused size_at
+returns c =
+    let inside : c.args.index < block_count c.args.s.now = omega (arith, c.le16_at.ensures, c.if-le16_at-index.false) in
+    rw (← c.judge.ensures, c.in_default.is, lt-ltb c.args.index _ inside, c.le32_at.ensures)

@@ -1,0 +1,12 @@
+-- `ends_of`: the clock is told.
+use Rattle.lemmas.proofs.Basics.{rules}
+use Rattle.tally.specs.Totals.{with_clock, ends_of, last_behind}
+use Rattle.tally.proofs.ends_of.Goals as goal
+
+pub returns-in-None : goal.returns-in-None
+unfolding with_clock ends_of last_behind
+returns-in-None c = rw c.in-None.is
+
+pub returns-in-At : goal.returns-in-At
+unfolding with_clock ends_of last_behind
+returns-in-At c = rw c.in-At.is
