@@ -1,5 +1,7 @@
 // What the programs that run cases share: records put together in a lent buffer, its first bytes, and the words for what was
 // compared.
+#![tactic(auto)]
+
 ghost use Rattle.std.specs.Prelude.{◌≡◌};
 ghost use Rattle.wire.specs.Parts.{part_of, le32_bytes};
 ghost use Rattle.line.specs.Text.{text_of, behind};
