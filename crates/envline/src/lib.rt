@@ -1,4 +1,6 @@
 // Document 01, "Bench cases": the line that the program writes for one envelope.
+#![tactic(auto)]
+
 ghost use Rattle.std.specs.Prelude.{◌≡◌};
 ghost use Rattle.envelope.specs.Reading.{envelope_of};
 ghost use Rattle.line.specs.Text.{text_of, laid};

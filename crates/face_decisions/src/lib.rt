@@ -1,4 +1,6 @@
 // Document 01, "The GetKey decision", as C has its answer, and the request and the rights as C hands them in, and as C is shown them.
+#![tactic(auto)]
+
 ghost use Rattle.std.specs.Prelude.{◌≡◌};
 ghost use Rattle.face_decisions.specs.Decisions.{rights_from, rights_code, root_from, request_from, given_code, root_bytes_shown, request_shown, decision_answer};
 

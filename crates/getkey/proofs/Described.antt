@@ -57,7 +57,7 @@ unfolding is16 answer_number number_of narrowed_of index_checks granting
 grants rights q present table =
     unless_each (λ n. is16 (granting rights q.root n present table) ≡ false) narrowing.Refused (index_checks q) (narrowing.Asks (asked_of q)) (refl, (refl, tt))
     (with_row_lem (chosen_row (wanted_of q.root (asked_of q)) table) q.root (asked_of q) _ _
-    (λ e. table_told table (sym (row_shows (wanted_of q.root (asked_of q)) table refl).1.0 ∙ e)))
+    (λ e. table_told table (sym (row_shows (wanted_of q.root (asked_of q)) table refl).number ∙ e)))
 
 -- 16 exactly where the verdict is no,
 pub verdict_16 : (verdict : Bool) (rights : Rights) (q : Request) (t : FileTime) (table : List ℕ) → eqb (answer_number (decision_by_verdict verdict rights q t table)) 16 ≡ not verdict

@@ -1,5 +1,7 @@
 // Document 02, No. 7: a trace replayed against a root table: a line for each record, then the total. The replay is a state that goes on,
 // by value: from record to record (`step`), and from chunk to chunk of a trace of any length (`replay`).
+#![tactic(auto)]
+
 ghost use Rattle.std.specs.Prelude.{◌≡◌, [], ◌∷◌, ◌++◌, min, eqb, length};
 ghost use Rattle.wire.specs.Parts.{onto};
 ghost use Rattle.records.specs.Writing.{output_of};

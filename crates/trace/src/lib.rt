@@ -1,4 +1,6 @@
 // Document 02, No. 7: one recorded request, 37 bytes, bit-packed, most significant bit first.
+#![tactic(auto)]
+
 ghost use Rattle.std.specs.Prelude.{◌≡◌, not, ◌&&◌, ◌≤◌, eqb, length};
 ghost use Rattle.refusal.specs.Chain.{first_of};
 ghost use Rattle.trace.specs.Layout.{root_field, twos_complement};

@@ -1,5 +1,7 @@
 // What answers are called in a line: refusals, identifiers, forms, places, and what a writer answers. Words stand one space apart;
 // none is put in front of the first or behind the last. Those that are put into lent bytes are put behind a line in the same way.
+#![tactic(auto)]
+
 ghost use Rattle.std.specs.Prelude.{◌≡◌};
 ghost use Rattle.line.specs.Text.{text_of, behind, laid, buffer, put, put_all};
 ghost use Rattle.words.specs.Words.{form_word, identifier_words, refused_words, span_words, written_words};

@@ -1,0 +1,12 @@
+-- `given_code`: the case is told.
+use Rattle.lemmas.proofs.Basics.{rules}
+use Rattle.face_decisions.specs.Decisions.{given_code}
+use Rattle.face_decisions.proofs.given_code.Goals as goal
+
+pub returns-in-None : goal.returns-in-None
+unfolding given_code
+returns-in-None c = rw c.in-None.is
+
+pub returns-in-Given : goal.returns-in-Given
+unfolding given_code
+returns-in-Given c = rw c.in-Given.is
