@@ -181,7 +181,7 @@ fn steps(line: Line, list: &[u8]) -> Line {
 }
 
 // The line so far, and the place of the next step.
-#[derive(Drop)]
+#[derive(Clone, Copy)]
 struct Walked {
     line: Line,
     place: Place,
@@ -210,7 +210,7 @@ fn hold(rt: &impl Print, name: &[u8], len: usize, count: u32, second: [u32; 5]) 
 }
 
 // What one walk answers when it is asked four times.
-#[derive(Drop)]
+#[derive(Clone, Copy)]
 struct Asked {
     one: Step,
     two: Step,

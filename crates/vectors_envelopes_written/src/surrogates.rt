@@ -8,7 +8,7 @@ use records::Written;
 use std::io;
 
 // A text: the first len of these bytes.
-#[derive(Drop)]
+#[derive(Clone, Copy)]
 struct Spelt {
     bytes: [u8; 6],
     len: usize,
