@@ -3,8 +3,15 @@
 // error, and by the exit status; where a read fails there is no line.
 #![tactic(auto)]
 
+ghost use Rattle.std.specs.Prelude.{◌≡◌, OnOk, IfSome, OnErr, Err};
+ghost use Rattle.std.specs.Io.KnownBytes.{Keeps, Appends};
+ghost use Rattle.envinfo.specs.declared.Failure.TheVariants as failure;
+ghost use Rattle.envelope.specs.Reading.{envelope_of};
+ghost use Rattle.line.specs.Text.{text_of};
+ghost use Rattle.envline.specs.Line.{line_of};
+
 use input::Input;
-use line::Line;
+use line::{Line, ROOM};
 use std::fmt;
 use std::io::{Read, Write};
 use std::process::ExitCode;
@@ -33,7 +40,11 @@ fn main(rt: HostRuntime) -> ExitCode {
     }
 }
 
-fn run(from: &mut impl Read, to: &mut impl Write) -> Result<(), Failure> {
+// Of a reader that says which bytes it has, all of them are told, however many.
+fn run<R: Read, W: Write>(from: &mut R, to: &mut W) -> Result<(), Failure>
+    ensures line { OnOk result (IfSome (R.remaining from.old) (λ bytes. Appends (W.contents to.old) (W.contents to.new) (line_of (envelope_of bytes)))) }
+    ensures unread { result ≡ Err Failure.Read → Keeps (W.contents to.old) (W.contents to.new) }
+{
     let mut buffer = [0; 65536];
     match input::read_all(from, &mut buffer) {
         Input::Bytes(len) => print(
@@ -44,10 +55,14 @@ fn run(from: &mut impl Read, to: &mut impl Write) -> Result<(), Failure> {
     }
 }
 
-fn print(to: &mut impl Write, line: Line) -> Result<(), Failure> {
+// Where it fails, it is the write that failed.
+fn print<W: Write>(to: &mut W, line: Line) -> Result<(), Failure>
+    ensures written { OnOk result (Appends (W.contents to.old) (W.contents to.new) (text_of line)) }
+    ensures failed { OnErr result (result ≡ Err Failure.Write) }
+{
     let bytes = line.bytes;
-    let len = line.len;
-    match to.write_all(wire::part(&bytes, Span { at: 0, len })) {
+    let len = line.len.min(ROOM);
+    match to.write_all(&bytes[..len]) {
         Ok(()) => Ok(()),
         Err(_) => Err(Failure::Write),
     }
