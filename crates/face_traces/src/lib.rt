@@ -1,5 +1,7 @@
 // Document 02, No. 7, as C has its answers: a recorded request, one function for each way that it is read; and a replay with its totals,
 // as C hands them in and is shown them.
+#![tactic(auto)]
+
 ghost use Rattle.std.specs.Prelude.{◌≡◌};
 ghost use Rattle.trace.specs.declared.RecordRead.TheVariants.{Accepted, Refused};
 ghost use Rattle.face_traces.specs.Records.{trace_answer};

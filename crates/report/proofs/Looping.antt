@@ -9,6 +9,7 @@ use Rattle.line.specs.Text.{buffer, put_all}
 use Rattle.line.proofs.Lines.{put-pieces}
 use Rattle.report.specs.declared.State.{State}
 use Rattle.report.specs.declared.Stepped.TheVariants as step
+use Rattle.report.specs.declared.Progress.{Progress}
 use Rattle.report.specs.declared.Stopped.{Stopped}
 use Rattle.report.specs.declared.Stopped.TheVariants.{Records, Room, Full}
 use Rattle.report.specs.Records.{records_of, has_record, answer_to}
@@ -127,18 +128,21 @@ module _ {table chunk lent : List ℕ} {ends : Bool} {first : State} {out left :
 
   -- No more: what was replayed is the whole.
   pub replaying_stop : (why : Stopped) → replay_of table st (records_of ends left) (length lent - written) ≡ halt why st
-      → (record { stopped = why; used = length chunk - length left; written = written; state = st }
-      ≡ progress_of (length chunk) (replay_of table first (records_of ends chunk) (length lent)))
-      × (out ≡ onto (replay_of table first (records_of ends chunk) (length lent)).text lent)
+      → record {
+        answer : (let p : Progress = record { stopped = why; used = length chunk - length left; written = written; state = st } in
+            p ≡ progress_of (length chunk) (replay_of table first (records_of ends chunk) (length lent)));
+        output : out ≡ onto (replay_of table first (records_of ends chunk) (length lent)).text lent;
+      }
   unfolding progress_of
   replaying_stop why halted =
       let whole = r.whole ∙ ap (behind r.passed r.done) halted in
       let short : length left ≡ length chunk - 37 * r.passed = ap length r.rest ∙ length-drop (37 * r.passed) chunk in
       let used : length chunk - length left ≡ min (37 * (r.passed + 0)) (length chunk) = omega arith in
-      let text : r.done ≡ r.done ++ [] = sym (append-nil r.done) in (
-        (λ i. record { stopped = why; used = used i; written = (r.size ∙ ap length text) i; state = st }) ∙ ap (progress_of (length chunk)) (sym whole),
-        r.output ∙ ap (λ t. onto t lent) text ∙ ap (λ w. onto w.text lent) (sym whole),
-      )
+      let text : r.done ≡ r.done ++ [] = sym (append-nil r.done) in
+      record {
+        answer = (λ i. record { stopped = why; used = used i; written = (r.size ∙ ap length text) i; state = st }) ∙ ap (progress_of (length chunk)) (sym whole);
+        output = r.output ∙ ap (λ t. onto t lent) text ∙ ap (λ w. onto w.text lent) (sym whole);
+      }
 
   -- Why it stops: no record; no room that is sure to do; a count that does not fit.
   pub no_record : has_record ends (length left) ≡ false → replay_of table st (records_of ends left) (length lent - written) ≡ halt Records st

@@ -1,5 +1,5 @@
 -- `judge`: the one check.
-use Rattle.lemmas.proofs.Basics.{not, refl, ap, ◌∙◌, rules}
+use Rattle.lemmas.proofs.Basics.{not, refl, ap, ◌∙◌}
 use Rattle.refusal.proofs.Chains.{run, run_first, refuse_is}
 use Rattle.keys.specs.KeyRule.{key_checks}
 use Rattle.keys.proofs.judge.Goals as goal

@@ -1,5 +1,4 @@
 -- `keys_allowed`: the one rule, and where it holds the other.
-use Rattle.lemmas.proofs.Basics.{rules}
 use Rattle.keys.specs.KeyRule.{keys_allowed}
 use Rattle.keys.proofs.keys_allowed.Goals as goal
 

@@ -1,5 +1,4 @@
 -- `form_reach`: the reach of its keys.
-use Rattle.lemmas.proofs.Basics.{rules}
 use Rattle.reach.specs.Reaches.{form_reach}
 use Rattle.reach.proofs.form_reach.Goals as goal
 

@@ -1,6 +1,5 @@
 -- `l1_reaches`: the tests are the definition's.
-use Rattle.lemmas.proofs.Basics.{rules, eq-eqb, ne_eqb, not-true}
-use borrow.Author.Tests.{not-false}
+use Rattle.lemmas.proofs.Basics.{eq-eqb, ne_eqb}
 use Rattle.reach.specs.Reached.{l1_reaches}
 use Rattle.reach.proofs.l1_reaches.Goals as goal
 

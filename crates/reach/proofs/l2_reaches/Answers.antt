@@ -1,6 +1,5 @@
 -- `l2_reaches`: the tests are the definition's.
-use Rattle.lemmas.proofs.Basics.{rules, eq-eqb, ne_eqb, not-true}
-use borrow.Author.Tests.{not-false}
+use Rattle.lemmas.proofs.Basics.{eq-eqb, ne_eqb}
 use Rattle.reach.specs.Reached.{l2_reaches}
 use Rattle.reach.proofs.l2_reaches.Goals as goal
 

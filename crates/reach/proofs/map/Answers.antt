@@ -1,5 +1,5 @@
 -- `map`: the rows filled so far are the first rows of the map.
-use Rattle.lemmas.proofs.Basics.{◌-◌, ◌≤◌, arith, add-one, [], ◌∷◌, ◌++◌, ◌≡◌, refl, sym, ap, ap₂, ◌∙◌, length, take, length-set, take_all, take-suc-set, rules}
+use Rattle.lemmas.proofs.Basics.{arith, add-one, [], ◌∷◌, ◌++◌, ◌≡◌, refl, sym, ap, ap₂, ◌∙◌, length-set, take_all, take-suc-set}
 use Rattle.reach.specs.Bits.{table}
 use Rattle.reach.specs.Maps.{row_of, map_of}
 use Rattle.reach.proofs.map.Goals as goal

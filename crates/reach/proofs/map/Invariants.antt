@@ -1,6 +1,6 @@
-use Rattle.lemmas.proofs.Basics.{◌-◌, ◌≤◌, arith, add-one, [], ◌∷◌, ◌++◌, ◌≡◌, refl, sym, ap, ap₂, ◌∙◌, length, take, length-set, take_all, take-suc-set, rules}
+use Rattle.lemmas.proofs.Basics.{◌-◌, ◌≤◌, ◌≡◌, length, take}
 use Rattle.reach.specs.Bits.{table}
-use Rattle.reach.specs.Maps.{row_of, map_of}
+use Rattle.reach.specs.Maps.{row_of}
 use Rattle.reach.proofs.map.Given as goal
 
 abbrev pub invariant-loop-i : goal.invariant-loop-i

@@ -1,5 +1,5 @@
 -- `of_group`: the tests are the definition's.
-use Rattle.lemmas.proofs.Basics.{rules, eq-eqb, ne_eqb}
+use Rattle.lemmas.proofs.Basics.{eq-eqb, ne_eqb}
 use Rattle.reach.specs.Reached.{of_group}
 use Rattle.reach.proofs.of_group.Goals as goal
 

@@ -1,5 +1,5 @@
 -- `row`: the row whole, or up to the L2 key's index, or empty.
-use Rattle.lemmas.proofs.Basics.{true, false, and-false, ⊎_elim, refl, sym, ◌∙◌, rules}
+use Rattle.lemmas.proofs.Basics.{true, false, and-false, refl, sym, ◌∙◌}
 use Rattle.lemmas.specs.Counting.{bit}
 use Rattle.reach.specs.Bits.{row_where}
 use Rattle.reach.proofs.MapLaws.{row_by}

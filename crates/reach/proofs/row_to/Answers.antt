@@ -1,5 +1,5 @@
 -- `row_to`: a word of ones, its last bits shifted out.
-use Rattle.lemmas.proofs.Basics.{arith, rules}
+use Rattle.lemmas.proofs.Basics.{arith}
 use Rattle.reach.proofs.BitLaws.{row_to, row-whole}
 use Rattle.reach.proofs.row_to.Goals as goal
 

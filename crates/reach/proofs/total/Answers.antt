@@ -1,5 +1,5 @@
 -- `total`: the sum so far is the total of the first rows.
-use Rattle.lemmas.proofs.Basics.{◌-◌, ◌*◌, ◌≤◌, ◌<◌, arith, add-one, ◌≡◌, ap, ◌∙◌, length, get_or, take, take_all, take-suc, rules}
+use Rattle.lemmas.proofs.Basics.{◌<◌, arith, add-one, ◌≡◌, length, get_or, take-suc, rules}
 use mir.Syntax.{w32}
 use mir.Val.{Fits}
 use lib.Count.{ones-le}

@@ -1,6 +1,5 @@
 -- `is_sid`: a SID stands at the start, so that its count can be read; then the size.
-use Rattle.lemmas.proofs.Basics.{arith, sym, ◌∙◌, rules, not-true}
-use Rattle.lemmas.proofs.Cases.{not-false}
+use Rattle.lemmas.proofs.Basics.{arith, sym, ◌∙◌}
 use Rattle.sid.specs.Rule.{is_sid}
 use Rattle.sid.proofs.ExactlyWhen.{Starts, starts}
 use Rattle.sid.proofs.is_sid.Goals as goal

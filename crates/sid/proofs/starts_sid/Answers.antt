@@ -1,5 +1,5 @@
 -- `starts_sid`: the tests one after the other; the count is a byte.
-use Rattle.lemmas.proofs.Basics.{arith, rules, le-leb, lt-leb, eq-eqb, ne_eqb}
+use Rattle.lemmas.proofs.Basics.{rules, le-leb, lt-leb, eq-eqb, ne_eqb}
 use Rattle.sid.specs.Rule.{starts_sid}
 use Rattle.sid.proofs.starts_sid.Goals as goal
 

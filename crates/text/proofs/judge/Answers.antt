@@ -1,5 +1,5 @@
 -- `judge`: the units passed are none of them zero, and meet; a turn passes one more.
-use Rattle.lemmas.proofs.Basics.{◌+◌, ◌-◌, ◌*◌, ◌/◌, ◌%◌, ◌≤◌, suc, arith, add-zero, not, ◌||◌, ◌≡◌, refl, sym, ap, ◌∙◌, eqb, length, eqb-true, rules}
+use Rattle.lemmas.proofs.Basics.{◌+◌, ◌-◌, ◌*◌, ◌/◌, ◌%◌, ◌≤◌, suc, arith, add-zero, not, ◌||◌, ◌≡◌, refl, sym, ap, ◌∙◌, eqb, length, eqb-true}
 use Rattle.lemmas.specs.Counting.{every}
 use Rattle.lemmas.proofs.Cases.{or-false, not-false}
 use Rattle.refusal.specs.Chain.{first_of}

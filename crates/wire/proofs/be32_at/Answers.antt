@@ -1,5 +1,5 @@
 -- `be32_at`: the part, where it has four bytes, is those bytes from the last; else it is empty and the number is 0.
-use Rattle.lemmas.proofs.Basics.{◌∙◌, rules}
+use Rattle.lemmas.proofs.Basics.{◌∙◌}
 use Rattle.wire.specs.Numbers.{le_of, be_of}
 use Rattle.wire.specs.Parts.{be_at}
 use Rattle.wire.proofs.Numbers.{be_read}

@@ -1,5 +1,5 @@
 -- `byte_at`: the part, where it has one byte, is that byte; else it is empty and the number is 0.
-use Rattle.lemmas.proofs.Basics.{arith, rules}
+use Rattle.lemmas.proofs.Basics.{arith}
 use Rattle.wire.specs.Numbers.{le_of}
 use Rattle.wire.specs.Parts.{le_at}
 use Rattle.wire.proofs.Numbers.{le_read}

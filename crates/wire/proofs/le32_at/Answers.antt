@@ -1,5 +1,5 @@
 -- `le32_at`: the part, where it has four bytes, is those bytes; else it is empty and the number is 0.
-use Rattle.lemmas.proofs.Basics.{◌∙◌, rules}
+use Rattle.lemmas.proofs.Basics.{◌∙◌}
 use Rattle.wire.specs.Numbers.{le_of}
 use Rattle.wire.specs.Parts.{le_at}
 use Rattle.wire.proofs.Numbers.{le_read}

@@ -1,5 +1,5 @@
 -- `le64_at`: the part, where it has eight bytes, is two numbers of four; else it is empty and the number is 0.
-use Rattle.lemmas.proofs.Basics.{◌+◌, ◌*◌, sym, ap₂, ◌∙◌, rules}
+use Rattle.lemmas.proofs.Basics.{◌+◌, ◌*◌, sym, ap₂, ◌∙◌}
 use Rattle.wire.specs.Numbers.{le_of}
 use Rattle.wire.specs.Parts.{le_at}
 use Rattle.wire.proofs.Numbers.{le-append, le_read}

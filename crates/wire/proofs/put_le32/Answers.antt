@@ -1,6 +1,5 @@
 -- `put_le32`: the number's four bytes are copied.
 use Rattle.wire.specs.Numbers.{le_bytes}
-use Rattle.lemmas.proofs.Basics.{rules}
 use Rattle.wire.proofs.put_le32.Goals as goal
 
 pub returns : goal.returns

@@ -1,5 +1,5 @@
 -- `put_le32s`: the invariant is that the numbers passed stand at the start; a turn lends the next four bytes.
-use Rattle.lemmas.proofs.Basics.{◌+◌, ◌-◌, ◌*◌, ◌≤◌, arith, add-one, ◌≡◌, refl, sym, ap, ◌∙◌, length, get_or, take, length-take-le, take-length, rules}
+use Rattle.lemmas.proofs.Basics.{◌+◌, ◌*◌, arith, add-one, ◌≡◌, refl, sym, ap, ◌∙◌, length, get_or, take, length-take-le, take-length}
 use Rattle.wire.specs.Numbers.{le_bytes}
 use Rattle.wire.specs.Parts.{onto, le32_bytes, joined}
 use Rattle.wire.proofs.Numbers.{length-le_bytes}

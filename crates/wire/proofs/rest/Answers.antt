@@ -1,5 +1,5 @@
 -- `rest`: the whole of what is left.
-use Rattle.lemmas.proofs.Basics.{arith, sym, drop_of_length-le, rules}
+use Rattle.lemmas.proofs.Basics.{arith, sym, drop_of_length-le}
 use Rattle.wire.proofs.Parts.{rest_whole}
 use Rattle.wire.proofs.rest.Goals as goal
 

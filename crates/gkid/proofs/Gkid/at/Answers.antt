@@ -1,5 +1,4 @@
 -- `Gkid::at`: one division and the split, none of whose parts leaves 32 bits.
-use Rattle.lemmas.proofs.Basics.{rules}
 use Rattle.gkid.proofs.Times.{one_division}
 use Rattle.gkid.proofs.Gkid.at.Goals as goal
 

@@ -1,6 +1,5 @@
 -- `Gkid::in_group`: not what 5 is given for.
 use mathlib.Core.Bool.{not-not}
-use Rattle.lemmas.proofs.Basics.{rules}
 use Rattle.gkid.proofs.Gkid.in_group.Goals as goal
 
 pub returns : goal.returns

@@ -1,5 +1,5 @@
 -- `Gkid::older`: 5; else one L2 index less, or the last L2 index of the L1 index before, or none.
-use Rattle.lemmas.proofs.Basics.{rules, lt-ltb, le-ltb}
+use Rattle.lemmas.proofs.Basics.{lt-ltb, le-ltb}
 use Rattle.gkid.specs.Older.{older_of}
 use Rattle.gkid.proofs.Gkid.older.Goals as goal
 

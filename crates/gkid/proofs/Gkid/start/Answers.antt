@@ -1,5 +1,5 @@
 -- `Gkid::start`: 5; else 21, told by the highest identifier; else the start time, which 64 bits hold.
-use Rattle.lemmas.proofs.Basics.{not, ap, ◌∙◌, arith, rules, lt-ltb, le-ltb}
+use Rattle.lemmas.proofs.Basics.{not, ap, ◌∙◌, arith, lt-ltb, le-ltb}
 use Rattle.gkid.specs.Conversion.{gkid_at, highest}
 use Rattle.gkid.proofs.Order.{in_group, ordinal}
 use Rattle.gkid.proofs.Times.{start_by_steps}

@@ -1,5 +1,4 @@
 -- `Form::keys`: each form is told, and `keys_of` computes at it.
-use Rattle.lemmas.proofs.Basics.{rules}
 use Rattle.keys.specs.Forms.{keys_of}
 use Rattle.keys.proofs.Form.keys.Goals as goal
 

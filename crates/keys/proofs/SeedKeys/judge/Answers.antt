@@ -1,5 +1,5 @@
 -- `SeedKeys::judge`: 5, then the key rule.
-use Rattle.lemmas.proofs.Basics.{sym, ◌∙◌, rules}
+use Rattle.lemmas.proofs.Basics.{sym, ◌∙◌}
 use Rattle.refusal.specs.Chain.{first_of}
 use Rattle.keys.specs.KeyRule.{key_checks}
 use Rattle.keys.specs.Forms.{seed_checks}

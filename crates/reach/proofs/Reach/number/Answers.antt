@@ -1,5 +1,4 @@
 -- `Reach::number`: that of the outcome.
-use Rattle.lemmas.proofs.Basics.{rules}
 use Rattle.reach.specs.Reaches.{reach_number}
 use Rattle.reach.proofs.Reach.number.Goals as goal
 

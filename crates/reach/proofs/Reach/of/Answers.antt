@@ -1,5 +1,5 @@
 -- `Reach::of`: the refusal of the keys, or their map.
-use Rattle.lemmas.proofs.Basics.{sym, ◌∙◌, rules}
+use Rattle.lemmas.proofs.Basics.{sym, ◌∙◌}
 use Rattle.refusal.specs.Chain.{unless_refused}
 use Rattle.reach.specs.Reaches.{keys_reach}
 use Rattle.reach.proofs.Reach.of.Goals as goal

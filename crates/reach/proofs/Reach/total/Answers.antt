@@ -1,5 +1,4 @@
 -- `Reach::total`: that of the rows.
-use Rattle.lemmas.proofs.Basics.{rules}
 use Rattle.reach.specs.Reaches.{reach_total}
 use Rattle.reach.proofs.Reach.total.Goals as goal
 

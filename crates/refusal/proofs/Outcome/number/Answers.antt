@@ -1,5 +1,4 @@
 -- `Outcome::number`: 0 where accepted, else the number of the refusal that it holds.
-use Rattle.lemmas.proofs.Basics.{rules}
 use Rattle.refusal.specs.Number.{outcome_number}
 use Rattle.refusal.proofs.Outcome.number.Goals as goal
 

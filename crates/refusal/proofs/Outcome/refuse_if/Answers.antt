@@ -1,5 +1,4 @@
 -- `Outcome::refuse_if`: what stands already, else the check's own word.
-use Rattle.lemmas.proofs.Basics.{rules}
 use Rattle.refusal.specs.Chain.{unless_refused, refuse_if}
 use Rattle.refusal.proofs.Outcome.refuse_if.Goals as goal
 

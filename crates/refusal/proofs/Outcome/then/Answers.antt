@@ -1,5 +1,4 @@
 -- `Outcome::then`: what stands already, else what comes next.
-use Rattle.lemmas.proofs.Basics.{rules}
 use Rattle.refusal.specs.Chain.{unless_refused}
 use Rattle.refusal.proofs.Outcome.then.Goals as goal
 

@@ -1,5 +1,4 @@
 -- `Refusal::number`: each variant is told, and `number_of` computes at it.
-use Rattle.lemmas.proofs.Basics.{rules}
 use Rattle.refusal.specs.Number.{number_of}
 use Rattle.refusal.proofs.Refusal.number.Goals as goal
 

@@ -1,5 +1,5 @@
 -- `RootId::at`: the two halves of the part.
-use Rattle.lemmas.proofs.Basics.{ap, ◌∙◌, rules}
+use Rattle.lemmas.proofs.Basics.{ap, ◌∙◌}
 use Rattle.wire.specs.Parts.{le_at}
 use Rattle.rootid.specs.Root.{root_at}
 use Rattle.rootid.proofs.RootId.at.Goals as goal

@@ -1,5 +1,5 @@
 -- `RootId::put`: the two halves, each into its own eight bytes.
-use Rattle.lemmas.proofs.Basics.{arith, [], refl, sym, rules}
+use Rattle.lemmas.proofs.Basics.{arith, [], refl, sym}
 use Rattle.wire.specs.Numbers.{le_bytes}
 use Rattle.wire.proofs.Numbers.{length-le_bytes}
 use Rattle.wire.proofs.Writing.{lent, onto-none, onto_out}

@@ -1,0 +1,6 @@
+-- `to_state`: the total is shown.
+use Rattle.lemmas.proofs.Basics.{rules}
+use Rattle.face_traces.proofs.to_state.Goals as goal
+
+pub returns : goal.returns
+returns c = rw c.to_tally.ensures

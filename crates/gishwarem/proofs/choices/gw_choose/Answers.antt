@@ -1,0 +1,6 @@
+-- `gw_choose`: what it calls ensures it.
+use Rattle.lemmas.proofs.Basics.{rules}
+use Rattle.gishwarem.proofs.choices.gw_choose.Goals as goal
+
+pub returns : goal.returns
+returns c = rw (c.choice_answer.ensures, c.choose.ensures, c.to_gkid.ensures, c.to_root.ensures)

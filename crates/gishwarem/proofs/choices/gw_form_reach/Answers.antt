@@ -1,0 +1,6 @@
+-- `gw_form_reach`: what it calls ensures it.
+use Rattle.lemmas.proofs.Basics.{rules}
+use Rattle.gishwarem.proofs.choices.gw_form_reach.Goals as goal
+
+pub returns : goal.returns
+returns c = rw (c.reach_answer.ensures, c.form_reach.ensures, c.to_gkid.ensures, c.form_from.ensures)

@@ -1,0 +1,6 @@
+-- `gw_descriptor_check`: what it calls ensures it.
+use Rattle.lemmas.proofs.Basics.{rules}
+use Rattle.gishwarem.proofs.decisions.gw_descriptor_check.Goals as goal
+
+pub returns : goal.returns
+returns c = rw (c.number.ensures, c.check.ensures)

@@ -1,0 +1,6 @@
+-- `gw_time_identifier`: what it calls ensures it.
+use Rattle.lemmas.proofs.Basics.{rules}
+use Rattle.gishwarem.proofs.times.gw_time_identifier.Goals as goal
+
+pub returns : goal.returns
+returns c = rw (c.present_answer.ensures, c.at.ensures)

@@ -1,0 +1,11 @@
+-- `gw_trace_read`: the reader's answer is told, and each way is laid out.
+use Rattle.lemmas.proofs.Basics.{rules}
+use Rattle.gishwarem.proofs.traces.gw_trace_read.Goals as goal
+
+pub returns-in-Accepted : goal.returns-in-Accepted
+returns-in-Accepted c =
+    rw (c.trace_answer.ensures, ← c.read.ensures, c.in-Accepted.is)
+
+pub returns-in-Refused : goal.returns-in-Refused
+returns-in-Refused c =
+    rw (c.trace_refused.ensures, ← c.read.ensures, c.in-Refused.is)

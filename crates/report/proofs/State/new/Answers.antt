@@ -1,0 +1,8 @@
+-- `State::new`: the total of no record.
+use Rattle.lemmas.proofs.Basics.{rules}
+use Rattle.report.specs.Replaying.{start}
+use Rattle.report.proofs.State.new.Goals as goal
+
+pub returns : goal.returns
+unfolding start
+returns c = rw c.new.ensures

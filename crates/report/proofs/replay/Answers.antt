@@ -1,0 +1,40 @@
+-- `replay`: what is replayed so far and what is left give the whole; what is left grows shorter with each record.
+use Rattle.lemmas.proofs.Basics.{arith, sym, ap, ◌∙◌, length, length-drop, length-take-le, rules}
+use Rattle.report.specs.declared.Stopped.TheVariants.{Records, Room, Full}
+use Rattle.report.specs.Replaying.{step_of}
+use Rattle.report.proofs.Chunks.{has_any}
+use Rattle.report.proofs.Looping.{Replaying, first_cut, replaying_start, replaying_again, replaying_stop, length_out, left_within, no_record, no_room, no_count}
+use Rattle.report.proofs.replay.Goals as goal
+
+pub loop-left-init : goal.loop-left-init
+loop-left-init c = replaying_start _ _ _ _ _
+
+pub slice_bounds-step-end : goal.slice_bounds-step-end
+slice_bounds-step-end c =
+    sym (length-take-le _ _ (omega (arith, c.record_size-size.ensures)))
+
+pub loop-left-smaller : goal.loop-left-smaller
+loop-left-smaller c =
+    let some = has_any _ _ (sym c.has_record.ensures ∙ c.loop-left-test.true) in
+    rw ((first_cut _ _ c.record_size-size.ensures).1, length-drop) (omega arith)
+
+pub loop-left-preserved : goal.loop-left-preserved
+loop-left-preserved c =
+    let cut = first_cut c.loop-left.left.now c.record_size-size.result c.record_size-size.ensures in
+    rw cut.1
+    (replaying_again c.loop-left.invariant (sym c.has_record.ensures ∙ c.loop-left-test.true) (omega (arith, length_out c.loop-left.invariant))
+    (ap (step_of _ _) (sym cut.0) ∙ sym c.step.ensures ∙ c.in-Line.is) c.put_line-written.ensures)
+
+pub returns-then-out-written-lt-LINE : goal.returns-then-out-written-lt-LINE
+returns-then-out-written-lt-LINE c =
+    replaying_stop c.loop-left.invariant Room (no_room c.loop-left.invariant (sym c.has_record.ensures ∙ c.loop-left-test.true) (omega (arith, length_out c.loop-left.invariant)))
+
+pub returns-in-Full : goal.returns-in-Full
+returns-in-Full c =
+    replaying_stop c.loop-left.invariant Full
+    (no_count c.loop-left.invariant (sym c.has_record.ensures ∙ c.loop-left-test.true) (omega (arith, length_out c.loop-left.invariant))
+    (ap (step_of _ _) (sym (first_cut _ _ c.record_size-size.ensures).0) ∙ sym c.step.ensures ∙ c.in-Full.is))
+
+pub returns : goal.returns
+returns c =
+    replaying_stop c.loop-left.invariant Records (no_record c.loop-left.invariant (sym c.has_record.ensures ∙ c.loop-left-test.false))
