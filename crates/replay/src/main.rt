@@ -4,7 +4,17 @@
 // was cut is never taken for a whole one.
 #![tactic(auto)]
 
+ghost use Rattle.std.specs.Prelude.{◌≡◌, ◌≢◌, ℕ, ◌≤◌, length, take, IfSome, IfOk, IfErr, OnOk, OnErr, Err};
+ghost use Rattle.std.specs.Io.KnownBytes.{Appends};
+ghost use Rattle.line.specs.Text.{text_of};
+ghost use Rattle.report.specs.Records.{records_of};
+ghost use Rattle.report.specs.Lines.{lines_from, total_line};
+ghost use Rattle.report.specs.Replaying.{after, report_of};
+ghost use Rattle.replay.specs.Cut.{OnlyLines};
+ghost use Rattle.replay.specs.declared.Failure.TheVariants as failure;
+
 use input::Input;
+use line::ROOM;
 use report::{State, Stopped};
 use std::env::{Env, FillError};
 use std::fmt;
@@ -57,7 +67,9 @@ fn run<R: Env + Files>(rt: &R, from: &mut impl Read, to: &mut impl Write) -> Res
 }
 
 // The one argument, at the start of the buffer, and how long it is.
-fn only_argument(rt: &impl Env, path: &mut [u8]) -> Result<usize, Failure> {
+fn only_argument(rt: &impl Env, path: &mut [u8]) -> Result<usize, Failure>
+    ensures { IfOk result (λ n. n ≤ length path.new) }
+{
     match (rt.arg(1, path), rt.arg(2, &mut [])) {
         (Ok(length), Err(FillError::NotPresent)) => Ok(length),
         _ => Err(Failure::Usage),
@@ -65,7 +77,9 @@ fn only_argument(rt: &impl Env, path: &mut [u8]) -> Result<usize, Failure> {
 }
 
 // How many bytes of the table were read. The file is closed then.
-fn read_table<R: Files>(rt: &R, path: &[u8], table: &mut [u8]) -> Result<usize, Failure> {
+fn read_table<R: Files>(rt: &R, path: &[u8], table: &mut [u8]) -> Result<usize, Failure>
+    ensures { IfOk result (λ n. n ≤ length table.new) }
+{
     let Ok(name) = std::str::from_utf8(path) else {
         return Err(Failure::Table);
     };
@@ -79,8 +93,12 @@ fn read_table<R: Files>(rt: &R, path: &[u8], table: &mut [u8]) -> Result<usize, 
 }
 
 // The whole trace, chunk by chunk: one that is not full is the last. A loop has to end, and nothing says that an input does: so it counts its
-// turns, up to a number that no run uses up.
-fn replay_trace(from: &mut impl Read, to: &mut impl Write, table: &[u8]) -> Result<(), Failure> {
+// turns, up to a number that no run uses up. Of a reader that says which bytes it has, the report of all of them is written, however the chunks
+// cut them; and where something fails other than a write, lines of records and no total.
+fn replay_trace<R: Read, W: Write>(from: &mut R, to: &mut W, table: &[u8]) -> Result<(), Failure>
+    ensures whole { OnOk result (IfSome (R.remaining from.old) (λ trace. Appends (W.contents to.old) (W.contents to.new) (report_of table.now trace))) }
+    ensures cut { IfErr result (λ failure. failure ≢ Failure.Write → OnlyLines table.now (W.contents to.old) (W.contents to.new)) }
+{
     let mut chunk = [0; CHUNK];
     let mut out = [0; 65536];
     let mut state = State::new();
@@ -99,14 +117,18 @@ fn replay_trace(from: &mut impl Read, to: &mut impl Write, table: &[u8]) -> Resu
 }
 
 // A chunk: its lines, as many at a time as the output holds. The answer is the state behind it.
-fn replay_chunk(
-    to: &mut impl Write,
+fn replay_chunk<W: Write>(
+    to: &mut W,
     out: &mut [u8],
     state: State,
     table: &[u8],
     chunk: &[u8],
     ends: bool,
-) -> Result<State, Failure> {
+) -> Result<State, Failure>
+    ensures text { OnOk result (Appends (W.contents to.old) (W.contents to.new) (lines_from table.now state.next (records_of ends chunk.now))) }
+    ensures state { IfOk result (λ next. next ≡ after table.now state (records_of ends chunk.now)) }
+    ensures cut { IfErr result (λ failure. failure ≢ Failure.Write → (n : ℕ) × Appends (W.contents to.old) (W.contents to.new) (lines_from table.now state.next (take n (records_of ends chunk.now)))) }
+{
     let mut present = state;
     let mut at = 0;
     for _ in 0..u64::MAX {
@@ -131,14 +153,20 @@ fn replay_chunk(
     Err(Failure::Full)
 }
 
-fn print_total(to: &mut impl Write, tally: Tally) -> Result<(), Failure> {
+fn print_total<W: Write>(to: &mut W, tally: Tally) -> Result<(), Failure>
+    ensures written { OnOk result (Appends (W.contents to.old) (W.contents to.new) (total_line tally)) }
+    ensures failed { OnErr result (result ≡ Err Failure.Write) }
+{
     let line = report::total_line(tally);
     let bytes = line.bytes;
-    let len = line.len;
-    write(to, wire::part(&bytes, Span { at: 0, len }))
+    let len = line.len.min(ROOM);
+    write(to, &bytes[..len])
 }
 
-fn write(to: &mut impl Write, bytes: &[u8]) -> Result<(), Failure> {
+fn write<W: Write>(to: &mut W, bytes: &[u8]) -> Result<(), Failure>
+    ensures written { OnOk result (Appends (W.contents to.old) (W.contents to.new) bytes.now) }
+    ensures failed { OnErr result (result ≡ Err Failure.Write) }
+{
     match to.write_all(bytes) {
         Ok(()) => Ok(()),
         Err(_) => Err(Failure::Write),
