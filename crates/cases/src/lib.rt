@@ -1,5 +1,7 @@
 // What the programs that run cases share: records put together in a lent buffer, its first bytes, and the words for what was
 // compared.
+#![tactic(auto)]
+
 ghost use Rattle.std.specs.Prelude.{◌≡◌};
 ghost use Rattle.wire.specs.Parts.{part_of, le32_bytes};
 ghost use Rattle.line.specs.Text.{text_of, behind};
@@ -62,7 +64,7 @@ pub fn envelope(dst: &mut [u8], front: [u32; 6], root: &[u8], lengths: [u32; 10]
 pub fn compared(line: Line, a: &[u8], b: &[u8]) -> Line
     ensures { text_of result ≡ behind (text_of line) (compared_word a.now b.now) }
 {
-    if check::same(a, b) {
+    if a == b {
         line.text(b"SAME")
     } else {
         line.text(b"OTHER")
@@ -73,7 +75,7 @@ pub fn compared(line: Line, a: &[u8], b: &[u8]) -> Line
 pub fn kept(line: Line, before: &[u8], out: &[u8], len: usize) -> Line
     ensures { text_of result ≡ behind (text_of line) (kept_word before.now out.now len) }
 {
-    if check::same(wire::rest(before, len), wire::rest(out, len)) {
+    if wire::rest(before, len) == wire::rest(out, len) {
         line.text(b"KEPT")
     } else {
         line.text(b"CHANGED")

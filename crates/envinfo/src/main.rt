@@ -1,26 +1,75 @@
 // Reads one envelope on standard input and writes its line on standard output. Room for one byte over the limit of 65,535 is
 // enough to tell a longer input, which is REFUSED 1; empty input is REFUSED 2. A read or a write that fails is said on standard
-// error; where a read fails there is no line.
+// error, and by the exit status; where a read fails there is no line.
+#![tactic(auto)]
+
+ghost use Rattle.std.specs.Prelude.{◌≡◌, OnOk, IfSome, OnErr, Err};
+ghost use Rattle.std.specs.Io.KnownBytes.{Keeps, Appends};
+ghost use Rattle.envinfo.specs.declared.Failure.TheVariants as failure;
+ghost use Rattle.envelope.specs.Reading.{envelope_of};
+ghost use Rattle.line.specs.Text.{text_of};
+ghost use Rattle.envline.specs.Line.{line_of};
+
 use input::Input;
-use line::Line;
+use line::{Line, ROOM};
+use std::fmt;
+use std::io::{Read, Write};
+use std::process::ExitCode;
 use wire::Span;
 
-fn main() {
-    let mut buffer = io::large_buffer();
-    match input::read_all(libc::STDIN_FILENO, &mut buffer) {
-        Input::Bytes(len) => print(envline::line_of(wire::part(&buffer, Span { at: 0, len }))),
-        Input::Failed => complain(b"envinfo: cannot read standard input\n"),
+// What the program says where it fails.
+#[derive(Clone, Copy)]
+enum Failure {
+    Read,
+    Write,
+}
+
+impl fmt::Display for Failure {
+    fn fmt<W: fmt::Write>(&self, f: &mut fmt::Formatter<W>) -> fmt::Result {
+        match self {
+            Failure::Read => f.write_str("envinfo: cannot read standard input"),
+            Failure::Write => f.write_str("envinfo: cannot write standard output"),
+        }
     }
 }
 
-fn print(line: Line) {
+fn main(rt: HostRuntime) -> ExitCode {
+    match run(&mut rt.stdin(), &mut rt.stdout()) {
+        Ok(()) => ExitCode::SUCCESS,
+        Err(failure) => complain(&rt, failure),
+    }
+}
+
+// Of a reader that says which bytes it has, all of them are told, however many.
+fn run<R: Read, W: Write>(from: &mut R, to: &mut W) -> Result<(), Failure>
+    ensures line { OnOk result (IfSome (R.remaining from.old) (λ bytes. Appends (W.contents to.old) (W.contents to.new) (line_of (envelope_of bytes)))) }
+    ensures unread { result ≡ Err Failure.Read → Keeps (W.contents to.old) (W.contents to.new) }
+{
+    let mut buffer = [0; 65536];
+    match input::read_all(from, &mut buffer) {
+        Input::Bytes(len) => print(
+            to,
+            envline::line_of(wire::part(&buffer, Span { at: 0, len })),
+        ),
+        Input::Failed => Err(Failure::Read),
+    }
+}
+
+// Where it fails, it is the write that failed.
+fn print<W: Write>(to: &mut W, line: Line) -> Result<(), Failure>
+    ensures written { OnOk result (Appends (W.contents to.old) (W.contents to.new) (text_of line)) }
+    ensures failed { OnErr result (result ≡ Err Failure.Write) }
+{
     let bytes = line.bytes;
-    let len = line.len;
-    if !io::write_all(libc::STDOUT_FILENO, wire::part(&bytes, Span { at: 0, len })) {
-        complain(b"envinfo: cannot write standard output\n");
+    let len = line.len.min(ROOM);
+    match to.write_all(&bytes[..len]) {
+        Ok(()) => Ok(()),
+        Err(_) => Err(Failure::Write),
     }
 }
 
-fn complain(text: &[u8]) {
-    io::write_all(libc::STDERR_FILENO, text);
+// Where standard error fails too, there is no one to tell.
+fn complain(rt: &impl Eprint, failure: Failure) -> ExitCode {
+    let _ = rt.eprintln(failure);
+    ExitCode::FAILURE
 }

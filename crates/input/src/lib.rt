@@ -1,6 +1,11 @@
 // The whole of an input, read into a lent buffer.
-ghost use Rattle.std.specs.Prelude.{◌≤◌, length};
-ghost use Rattle.input.specs.Counts.{count_of};
+#![tactic(auto)]
+
+ghost use Rattle.std.specs.Prelude.{◌≤◌, ◌<◌, length, take};
+ghost use Rattle.std.specs.Io.KnownBytes.{Consumes, IsAtEnd};
+ghost use Rattle.input.specs.Counts.{count_of, IfBytes};
+
+use std::io::Read;
 
 // What reading came to: so many bytes at the start of the buffer, or a read that failed.
 #[derive(Clone, Copy)]
@@ -9,18 +14,18 @@ pub enum Input {
     Failed,
 }
 
-// Reads until the input ends, the buffer is full or a read fails: a longer input just fills the buffer. Which bytes are read no
-// contract can say.
-pub fn read_all(fd: i32, buffer: &mut [u8]) -> Input
-    ensures { count_of result ≤ length buffer.new }
+// Reads until the input ends, the buffer is full or a read fails: a longer input just fills the buffer. The bytes are those that the
+// reader had left, where its type says which; of a file or a stream no contract can say them.
+pub fn read_all<R: Read>(from: &mut R, buffer: &mut [u8]) -> Input
+    ensures within { count_of result ≤ length buffer.new }
+    ensures bytes { IfBytes result (λ n. Consumes (R.remaining from.old) (R.remaining from.new) (take n buffer.new)) }
+    ensures whole { IfBytes result (λ n. n < length buffer.new → IsAtEnd (R.remaining from.new)) }
 {
     let mut at = 0;
     while at < buffer.len() {
-        let got = libc::read(fd, &mut buffer[at..]);
-        if got < 0 {
+        let Ok(more) = from.read(&mut buffer[at..]) else {
             return Input::Failed;
-        }
-        let more = io::count(got, &buffer[at..]);
+        };
         if more == 0 {
             return Input::Bytes(at);
         }

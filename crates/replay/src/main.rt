@@ -1,81 +1,137 @@
 // replay TABLE < TRACE: document 02, No. 7. Replays a trace of any length, on standard input, against the root table in a file, and writes a line for
 // each record and the total on standard output. The trace is read in chunks of whole records, and the lines of a chunk are written together,
-// so that the memory it takes does not grow. What fails is said on standard error, and then there is no total: a report that was cut is never
-// taken for a whole one.
+// so that the memory it takes does not grow. What fails is said on standard error and by the exit status, and then there is no total: a report that
+// was cut is never taken for a whole one.
+#![tactic(auto)]
+
+ghost use Rattle.std.specs.Prelude.{◌≡◌, ◌≢◌, ℕ, ◌≤◌, length, take, IfSome, IfOk, IfErr, OnOk, OnErr, Err};
+ghost use Rattle.std.specs.Io.KnownBytes.{Appends};
+ghost use Rattle.line.specs.Text.{text_of};
+ghost use Rattle.report.specs.Records.{records_of};
+ghost use Rattle.report.specs.Lines.{lines_from, total_line};
+ghost use Rattle.report.specs.Replaying.{after, report_of};
+ghost use Rattle.replay.specs.Cut.{OnlyLines};
+ghost use Rattle.replay.specs.declared.Failure.TheVariants as failure;
+
 use input::Input;
+use line::ROOM;
 use report::{State, Stopped};
+use std::env::{Env, FillError};
+use std::fmt;
+use std::fs::File;
+use std::io::{Read, Write};
+use std::process::ExitCode;
+use std::rt::Files;
 use tally::Tally;
 use wire::Span;
 
 // 1,771 whole records.
 const CHUNK: usize = 65527;
 
-// What came of a part of the trace: the state behind it; or it failed, which has been said.
-#[derive(Drop)]
-enum Went {
-    On(State),
-    Failed,
+// What the program says where it fails.
+#[derive(Clone, Copy)]
+enum Failure {
+    Usage,
+    Table,
+    Read,
+    Write,
+    Full,
 }
 
-fn main() {
-    let mut path = io::buffer();
-    let length = os::arg(1, &mut path);
-    if os::errno() != 0 || os::arg_count() != 2 {
-        complain(b"replay: usage: replay TABLE < TRACE\n");
-        return;
+impl fmt::Display for Failure {
+    fn fmt<W: fmt::Write>(&self, f: &mut fmt::Formatter<W>) -> fmt::Result {
+        match self {
+            Failure::Usage => f.write_str("replay: usage: replay TABLE < TRACE"),
+            Failure::Table => f.write_str("replay: cannot read the root table"),
+            Failure::Read => f.write_str("replay: cannot read standard input"),
+            Failure::Write => f.write_str("replay: cannot write standard output"),
+            Failure::Full => f.write_str("replay: a count does not fit in 64 bits"),
+        }
     }
+}
+
+fn main(rt: HostRuntime) -> ExitCode {
+    match run(&rt, &mut rt.stdin(), &mut rt.stdout()) {
+        Ok(()) => ExitCode::SUCCESS,
+        Err(failure) => complain(&rt, failure),
+    }
+}
+
+fn run<R: Env + Files>(rt: &R, from: &mut impl Read, to: &mut impl Write) -> Result<(), Failure> {
+    let mut path = [0; 4096];
+    let length = only_argument(rt, &mut path)?;
     // A table of more than 2,048 bytes is 20, whatever stands behind them.
-    let mut table = io::buffer();
-    match read_table(&path[..length], &mut table) {
-        Input::Bytes(len) => replay_trace(wire::part(&table, Span { at: 0, len })),
-        Input::Failed => complain(b"replay: cannot read the root table\n"),
+    let mut table = [0; 4096];
+    let len = read_table(rt, &path[..length], &mut table)?;
+    replay_trace(from, to, wire::part(&table, Span { at: 0, len }))
+}
+
+// The one argument, at the start of the buffer, and how long it is.
+fn only_argument(rt: &impl Env, path: &mut [u8]) -> Result<usize, Failure>
+    ensures { IfOk result (λ n. n ≤ length path.new) }
+{
+    match (rt.arg(1, path), rt.arg(2, &mut [])) {
+        (Ok(length), Err(FillError::NotPresent)) => Ok(length),
+        _ => Err(Failure::Usage),
     }
 }
 
-fn read_table(path: &[u8], table: &mut [u8]) -> Input {
-    let fd = os::open_read(path);
-    if fd < 0 {
-        return Input::Failed;
+// How many bytes of the table were read. The file is closed then.
+fn read_table<R: Files>(rt: &R, path: &[u8], table: &mut [u8]) -> Result<usize, Failure>
+    ensures { IfOk result (λ n. n ≤ length table.new) }
+{
+    let Ok(name) = std::str::from_utf8(path) else {
+        return Err(Failure::Table);
+    };
+    let Ok(mut file) = File::open(rt, name) else {
+        return Err(Failure::Table);
+    };
+    match input::read_all(&mut file, table) {
+        Input::Bytes(len) => Ok(len),
+        Input::Failed => Err(Failure::Table),
     }
-    let read = input::read_all(fd, table);
-    libc::close(fd);
-    read
 }
 
 // The whole trace, chunk by chunk: one that is not full is the last. A loop has to end, and nothing says that an input does: so it counts its
-// turns down, from a number that no run uses up.
-fn replay_trace(table: &[u8]) {
-    let mut chunk = [0u8; CHUNK];
-    let mut out = io::large_buffer();
+// turns, up to a number that no run uses up. Of a reader that says which bytes it has, the report of all of them is written, however the chunks
+// cut them; and where something fails other than a write, lines of records and no total.
+fn replay_trace<R: Read, W: Write>(from: &mut R, to: &mut W, table: &[u8]) -> Result<(), Failure>
+    ensures whole { OnOk result (IfSome (R.remaining from.old) (λ trace. Appends (W.contents to.old) (W.contents to.new) (report_of table.now trace))) }
+    ensures cut { IfErr result (λ failure. failure ≢ Failure.Write → OnlyLines table.now (W.contents to.old) (W.contents to.new)) }
+{
+    let mut chunk = [0; CHUNK];
+    let mut out = [0; 65536];
     let mut state = State::new();
-    let mut turns = u64::MAX;
-    while turns > 0 {
-        let Input::Bytes(len) = input::read_all(libc::STDIN_FILENO, &mut chunk) else {
-            complain(b"replay: cannot read standard input\n");
-            return;
+    for _ in 0..u64::MAX {
+        let Input::Bytes(len) = input::read_all(from, &mut chunk) else {
+            return Err(Failure::Read);
         };
         let ends = len < CHUNK;
         let records = wire::part(&chunk, Span { at: 0, len });
-        let Went::On(next) = replay_chunk(&mut out, state, table, records, ends) else {
-            return;
-        };
+        state = replay_chunk(to, &mut out, state, table, records, ends)?;
         if ends {
-            let tally = next.tally;
-            print_total(tally);
-            return;
+            return print_total(to, state.tally);
         }
-        state = next;
-        turns -= 1;
     }
-    full();
+    Err(Failure::Full)
 }
 
-// A chunk: its lines, as many at a time as the output holds.
-fn replay_chunk(out: &mut [u8], state: State, table: &[u8], chunk: &[u8], ends: bool) -> Went {
+// A chunk: its lines, as many at a time as the output holds. The answer is the state behind it.
+fn replay_chunk<W: Write>(
+    to: &mut W,
+    out: &mut [u8],
+    state: State,
+    table: &[u8],
+    chunk: &[u8],
+    ends: bool,
+) -> Result<State, Failure>
+    ensures text { OnOk result (Appends (W.contents to.old) (W.contents to.new) (lines_from table.now state.next (records_of ends chunk.now))) }
+    ensures state { IfOk result (λ next. next ≡ after table.now state (records_of ends chunk.now)) }
+    ensures cut { IfErr result (λ failure. failure ≢ Failure.Write → (n : ℕ) × Appends (W.contents to.old) (W.contents to.new) (lines_from table.now state.next (take n (records_of ends chunk.now)))) }
+{
     let mut present = state;
     let mut at = 0;
-    let mut turns = u64::MAX;
-    while turns > 0 {
+    for _ in 0..u64::MAX {
         let progress = report::replay(out, present, table, &chunk[at..], ends);
         let lines = wire::part(
             out,
@@ -84,43 +140,41 @@ fn replay_chunk(out: &mut [u8], state: State, table: &[u8], chunk: &[u8], ends: 
                 len: progress.written,
             },
         );
-        if !io::write_all(libc::STDOUT_FILENO, lines) {
-            complain(b"replay: cannot write standard output\n");
-            return Went::Failed;
-        }
-        let next = progress.state;
-        let stopped = progress.stopped;
-        match stopped {
-            Stopped::Records => {
-                return Went::On(next);
-            }
+        write(to, lines)?;
+        match progress.stopped {
+            Stopped::Records => return Ok(progress.state),
             Stopped::Room => {
-                present = next;
+                present = progress.state;
                 at += progress.used;
-                turns -= 1;
             }
-            Stopped::Full => {
-                return full();
-            }
+            Stopped::Full => return Err(Failure::Full),
         }
     }
-    full()
+    Err(Failure::Full)
 }
 
-fn full() -> Went {
-    complain(b"replay: a count does not fit in 64 bits\n");
-    Went::Failed
-}
-
-fn print_total(tally: Tally) {
+fn print_total<W: Write>(to: &mut W, tally: Tally) -> Result<(), Failure>
+    ensures written { OnOk result (Appends (W.contents to.old) (W.contents to.new) (total_line tally)) }
+    ensures failed { OnErr result (result ≡ Err Failure.Write) }
+{
     let line = report::total_line(tally);
     let bytes = line.bytes;
-    let len = line.len;
-    if !io::write_all(libc::STDOUT_FILENO, wire::part(&bytes, Span { at: 0, len })) {
-        complain(b"replay: cannot write standard output\n");
+    let len = line.len.min(ROOM);
+    write(to, &bytes[..len])
+}
+
+fn write<W: Write>(to: &mut W, bytes: &[u8]) -> Result<(), Failure>
+    ensures written { OnOk result (Appends (W.contents to.old) (W.contents to.new) bytes.now) }
+    ensures failed { OnErr result (result ≡ Err Failure.Write) }
+{
+    match to.write_all(bytes) {
+        Ok(()) => Ok(()),
+        Err(_) => Err(Failure::Write),
     }
 }
 
-fn complain(text: &[u8]) {
-    io::write_all(libc::STDERR_FILENO, text);
+// Where standard error fails too, there is no one to tell.
+fn complain(rt: &impl Eprint, failure: Failure) -> ExitCode {
+    let _ = rt.eprintln(failure);
+    ExitCode::FAILURE
 }

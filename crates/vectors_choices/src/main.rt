@@ -1,15 +1,18 @@
 // Document 01, "Reach, and the two envelopes": which of two envelopes serves, by which key. Each case is a line: its name, then what
 // the library answers. The file `stdout` beside src/ holds what the paper says.
+#![tactic(auto)]
+
 use cases::MARK;
 use gkid::{Gkid, L0, L1, L2};
 use line::Line;
 use refusal::Refusal;
 use rootid::RootId;
 use serving::{Choice, SeedKey};
+use std::io;
 use wire::Span;
 
 // An envelope of len bytes at (5, l1, l2), under the root of that low half.
-#[derive(Drop)]
+#[derive(Clone, Copy)]
 struct Held {
     len: usize,
     root: u64,
@@ -23,201 +26,250 @@ struct Held {
     unit: u32,
 }
 
-fn main() {
-    cached();
-    fetched();
-    neither();
-    keyless();
-    public_at_31();
-    half_a_pair();
+fn main(rt: HostRuntime) -> io::Result<()> {
+    cached(&rt)?;
+    fetched(&rt)?;
+    neither(&rt)?;
+    keyless(&rt)?;
+    public_at_31(&rt)?;
+    half_a_pair(&rt)
 }
 
-fn cached() {
+fn cached(rt: &impl Print) -> io::Result<()> {
     let own = both(3, 7);
     let l1_alone = alone(3, 7, 64, 0);
     let l2_alone = alone(3, 7, 0, 64);
-    choice(b"choice: its own identifier: ", own, none(), 5, 3, 7);
-    choice(b"choice: the first of its row: ", own, none(), 5, 3, 0);
+    choice(rt, b"choice: its own identifier: ", own, none(), 5, 3, 7)?;
+    choice(rt, b"choice: the first of its row: ", own, none(), 5, 3, 0)?;
     choice(
+        rt,
         b"choice: the last of the row below: ",
         own,
         none(),
         5,
         2,
         31,
-    );
-    choice(b"choice: the first of all: ", own, none(), 5, 0, 0);
-    choice(b"choice: both serve: ", own, both(9, 0), 5, 3, 7);
-    choice(b"choice: equal envelopes: ", own, own, 5, 3, 7);
+    )?;
+    choice(rt, b"choice: the first of all: ", own, none(), 5, 0, 0)?;
+    choice(rt, b"choice: both serve: ", own, both(9, 0), 5, 3, 7)?;
+    choice(rt, b"choice: equal envelopes: ", own, own, 5, 3, 7)?;
     choice(
+        rt,
         b"choice: the L1 key at L2 31: ",
         alone(3, 31, 64, 0),
         none(),
         5,
         3,
         31,
-    );
+    )?;
     choice(
+        rt,
         b"choice: the L1 key alone, a row below: ",
         l1_alone,
         none(),
         5,
         2,
         0,
-    );
+    )?;
     choice(
+        rt,
         b"choice: the L2 key alone, its own: ",
         l2_alone,
         none(),
         5,
         3,
         7,
-    );
+    )
 }
 
-fn fetched() {
+fn fetched(rt: &impl Print) -> io::Result<()> {
     let own = both(3, 7);
     let later = both(9, 0);
-    choice(b"choice: fetched by its L1 key: ", own, later, 5, 3, 8);
-    choice(b"choice: fetched by its L2 key: ", own, later, 5, 9, 0);
+    choice(rt, b"choice: fetched by its L1 key: ", own, later, 5, 3, 8)?;
+    choice(rt, b"choice: fetched by its L2 key: ", own, later, 5, 9, 0)?;
     choice(
+        rt,
         b"choice: cached of another root: ",
         other_root(own),
         later,
         5,
         3,
         7,
-    );
+    )?;
     choice(
+        rt,
         b"choice: cached cut to 79 bytes: ",
         cut(own),
         later,
         5,
         3,
         7,
-    );
+    )?;
     choice(
+        rt,
         b"choice: cached breaks the key rule: ",
         both(0, 7),
         later,
         5,
         0,
         7,
-    );
-    choice(b"choice: cached is public: ", public(3, 7), later, 5, 3, 7);
-    choice(b"choice: no cached one: ", none(), later, 5, 3, 7);
+    )?;
+    choice(
+        rt,
+        b"choice: cached is public: ",
+        public(3, 7),
+        later,
+        5,
+        3,
+        7,
+    )?;
+    choice(rt, b"choice: no cached one: ", none(), later, 5, 3, 7)
 }
 
-fn neither() {
+fn neither(rt: &impl Print) -> io::Result<()> {
     let own = both(3, 7);
     let later = both(9, 0);
-    choice(b"choice: past both: ", own, later, 5, 9, 1);
-    choice(b"choice: an earlier L0: ", own, later, 4, 0, 0);
-    choice(b"choice: a later L0: ", own, later, 6, 0, 0);
-    choice(b"choice: L1 index 32: ", own, later, 5, 32, 0);
-    choice(b"choice: L2 index 32: ", own, later, 5, 0, 32);
+    choice(rt, b"choice: past both: ", own, later, 5, 9, 1)?;
+    choice(rt, b"choice: an earlier L0: ", own, later, 4, 0, 0)?;
+    choice(rt, b"choice: a later L0: ", own, later, 6, 0, 0)?;
+    choice(rt, b"choice: L1 index 32: ", own, later, 5, 32, 0)?;
+    choice(rt, b"choice: L2 index 32: ", own, later, 5, 0, 32)?;
     choice(
+        rt,
         b"choice: both of another root: ",
         other_root(own),
         other_root(later),
         5,
         3,
         7,
-    );
+    )?;
     choice(
+        rt,
         b"choice: both cut to 79 bytes: ",
         cut(own),
         cut(later),
         5,
         3,
         7,
-    );
-    choice(b"choice: no envelopes: ", none(), none(), 5, 3, 7);
+    )?;
+    choice(rt, b"choice: no envelopes: ", none(), none(), 5, 3, 7)
 }
 
 // An absent key isn't replaced by another.
-fn keyless() {
+fn keyless(rt: &impl Print) -> io::Result<()> {
     choice(
+        rt,
         b"choice: public at the wanted one: ",
         public(3, 7),
         none(),
         5,
         3,
         7,
-    );
+    )?;
     choice(
+        rt,
         b"choice: keyless at the wanted one: ",
         alone(3, 7, 0, 0),
         none(),
         5,
         3,
         7,
-    );
+    )?;
     choice(
+        rt,
         b"choice: the L1 key alone, its own: ",
         alone(3, 7, 64, 0),
         none(),
         5,
         3,
         7,
-    );
+    )?;
     choice(
+        rt,
         b"choice: the L2 key alone, a row below: ",
         alone(3, 7, 0, 64),
         none(),
         5,
         2,
         31,
-    );
+    )?;
     choice(
+        rt,
         b"choice: a row past the L1 key at L2 31: ",
         alone(3, 31, 64, 0),
         none(),
         5,
         4,
         0,
-    );
+    )
 }
 
 // Document 02, No. 4: a public envelope that carries its key at L2 index 31 serves nothing.
-fn public_at_31() {
+fn public_at_31(rt: &impl Print) -> io::Result<()> {
     let at_31 = public(3, 31);
     let seed = alone(3, 31, 64, 0);
-    choice(b"choice: public at L2 31: ", at_31, none(), 5, 3, 31);
-    choice(b"choice: public, below L2 31: ", at_31, none(), 5, 3, 0);
-    choice(b"choice: both public at L2 31: ", at_31, at_31, 5, 3, 31);
-    choice(b"choice: cached public at L2 31: ", at_31, seed, 5, 3, 31);
+    choice(rt, b"choice: public at L2 31: ", at_31, none(), 5, 3, 31)?;
+    choice(rt, b"choice: public, below L2 31: ", at_31, none(), 5, 3, 0)?;
+    choice(
+        rt,
+        b"choice: both public at L2 31: ",
+        at_31,
+        at_31,
+        5,
+        3,
+        31,
+    )?;
+    choice(
+        rt,
+        b"choice: cached public at L2 31: ",
+        at_31,
+        seed,
+        5,
+        3,
+        31,
+    )
 }
 
 // Document 02, No. 6: an envelope with an unpaired surrogate in a text serves nothing: the other one, or neither.
-fn half_a_pair() {
+fn half_a_pair(rt: &impl Print) -> io::Result<()> {
     let own = both(3, 7);
     let broken = surrogate(own);
     choice(
+        rt,
         b"choice: half a pair in the cached one: ",
         broken,
         own,
         5,
         3,
         7,
-    );
+    )?;
     choice(
+        rt,
         b"choice: half a pair in the fetched one: ",
         own,
         broken,
         5,
         3,
         7,
-    );
+    )?;
     choice(
+        rt,
         b"choice: half a pair in the cached one alone: ",
         broken,
         none(),
         5,
         3,
         7,
-    );
-    choice(b"choice: half a pair in both: ", broken, broken, 5, 3, 7);
+    )?;
+    choice(
+        rt,
+        b"choice: half a pair in both: ",
+        broken,
+        broken,
+        5,
+        3,
+        7,
+    )
 }
 
 // A seed envelope with keys of these lengths.
@@ -290,7 +342,15 @@ fn put(s: &mut [u8], held: Held, mark: u8) {
 }
 
 // The choice for the identifier (l0, l1, l2) under the root whose low half is 2.
-fn choice(name: &[u8], cached: Held, fetched: Held, l0: u32, l1: u32, l2: u32) {
+fn choice(
+    rt: &impl Print,
+    name: &[u8],
+    cached: Held,
+    fetched: Held,
+    l0: u32,
+    l1: u32,
+    l2: u32,
+) -> io::Result<()> {
     let mut a = [0; 218];
     let mut b = [0; 218];
     put(&mut a, cached, 10);
@@ -300,12 +360,15 @@ fn choice(name: &[u8], cached: Held, fetched: Held, l0: u32, l1: u32, l2: u32) {
         l1: L1(l1),
         l2: L2(l2),
     };
-    print(chosen(
-        Line::new().text(name),
-        wanted,
-        cases::first(&a, cached.len),
-        cases::first(&b, fetched.len),
-    ));
+    print(
+        rt,
+        chosen(
+            Line::new().text(name),
+            wanted,
+            cases::first(&a, cached.len),
+            cases::first(&b, fetched.len),
+        ),
+    )
 }
 
 // The answer; and the part's length and the number that it begins with.
@@ -334,9 +397,9 @@ fn by(line: Line, key: SeedKey, span: Span) -> Line {
 }
 
 // A finished line, on standard output.
-fn print(line: Line) {
+fn print(rt: &impl Print, line: Line) -> io::Result<()> {
     let ended = line.text(b"\n");
     let bytes = ended.bytes;
     let len = ended.len;
-    io::write_all(libc::STDOUT_FILENO, wire::part(&bytes, Span { at: 0, len }));
+    rt.write_all(wire::part(&bytes, Span { at: 0, len }))
 }

@@ -1,69 +1,78 @@
 // Document 02, No. 5: security descriptors. Each case is a line: its name, then SOUND or the part that fails first. The file `stdout`
 // beside src/ holds what the paper says.
+#![tactic(auto)]
+
 mod items;
 mod places;
 
 use descriptor::Finding;
 use input::Input;
 use line::Line;
+use std::io;
+use std::io::Read;
 use wire::Span;
 
 // Revision 1 and the control bit 0x8000, as the head's first number.
 const FIRST: u32 = 0x8000_0001;
 
-fn main() {
-    peer();
-    lengths();
-    heads();
-    items::run();
-    places::run();
-    orders();
+fn main(rt: HostRuntime) -> io::Result<()> {
+    peer(&rt, &mut rt.stdin())?;
+    lengths(&rt)?;
+    heads(&rt)?;
+    items::run(&rt)?;
+    places::run(&rt)?;
+    orders(&rt)
 }
 
 // Another implementation's, on standard input: owner at 48, DACL at 20 with one entry of 20 bytes.
-fn peer() {
+fn peer(rt: &impl Print, from: &mut impl Read) -> io::Result<()> {
     let mut bytes = [0; 64];
-    if let Input::Bytes(len) = input::read_all(libc::STDIN_FILENO, &mut bytes) {
-        told(b"descriptor: a peer's: ", cases::first(&bytes, len));
+    if let Input::Bytes(len) = input::read_all(from, &mut bytes) {
+        told(rt, b"descriptor: a peer's: ", cases::first(&bytes, len))?;
     }
+    Ok(())
 }
 
-fn lengths() {
+fn lengths(rt: &impl Print) -> io::Result<()> {
     let mut bytes = [0; 65536];
     cases::numbers(&mut bytes, 0, &[FIRST]);
-    told(b"descriptor: the least: ", cases::first(&bytes, 20));
-    told(b"descriptor: 19 bytes: ", cases::first(&bytes, 19));
-    told(b"descriptor: empty: ", cases::first(&bytes, 0));
-    told(b"descriptor: 65,535 bytes: ", cases::first(&bytes, 65535));
-    told(b"descriptor: 65,536 bytes: ", &bytes);
+    told(rt, b"descriptor: the least: ", cases::first(&bytes, 20))?;
+    told(rt, b"descriptor: 19 bytes: ", cases::first(&bytes, 19))?;
+    told(rt, b"descriptor: empty: ", cases::first(&bytes, 0))?;
+    told(
+        rt,
+        b"descriptor: 65,535 bytes: ",
+        cases::first(&bytes, 65535),
+    )?;
+    told(rt, b"descriptor: 65,536 bytes: ", &bytes)
 }
 
-fn heads() {
-    changed(b"descriptor: four items: ", 0, &[FIRST]);
-    changed(b"descriptor: revision 0: ", 0, &[0x8000_0000]);
-    changed(b"descriptor: revision 2: ", 0, &[0x8000_0002]);
-    changed(b"descriptor: control 0x7FFF: ", 0, &[0x7FFF_0001]);
-    changed(b"descriptor: control 0xFFFF: ", 0, &[0xFFFF_0001]);
-    changed(b"descriptor: Sbz1 of 255: ", 0, &[0x8000_FF01]);
+fn heads(rt: &impl Print) -> io::Result<()> {
+    changed(rt, b"descriptor: four items: ", 0, &[FIRST])?;
+    changed(rt, b"descriptor: revision 0: ", 0, &[0x8000_0000])?;
+    changed(rt, b"descriptor: revision 2: ", 0, &[0x8000_0002])?;
+    changed(rt, b"descriptor: control 0x7FFF: ", 0, &[0x7FFF_0001])?;
+    changed(rt, b"descriptor: control 0xFFFF: ", 0, &[0xFFFF_0001])?;
+    changed(rt, b"descriptor: Sbz1 of 255: ", 0, &[0x8000_FF01])
 }
 
 // Each part where the next fails too.
-fn orders() {
-    changed(b"descriptor: head before owner: ", 0, &[0, 1]);
-    changed(b"descriptor: owner before group: ", 4, &[1, 1]);
-    changed(b"descriptor: group before SACL: ", 8, &[1, 1]);
-    changed(b"descriptor: SACL before DACL: ", 12, &[1, 1]);
+fn orders(rt: &impl Print) -> io::Result<()> {
+    changed(rt, b"descriptor: head before owner: ", 0, &[0, 1])?;
+    changed(rt, b"descriptor: owner before group: ", 4, &[1, 1])?;
+    changed(rt, b"descriptor: group before SACL: ", 8, &[1, 1])?;
+    changed(rt, b"descriptor: SACL before DACL: ", 12, &[1, 1])
 }
 
 // A sound descriptor of 92 bytes with numbers put into it from a place on. A number at the start of an ACL or an entry has its size in
 // the upper half. The items stand end to end: the owner at 20, 16 bytes; the
 // group at 36, 8 bytes; the SACL at 44, 20 bytes, with entries of 4 and 8 bytes at 52 and 56; the DACL at 64, 28 bytes, with an entry of
 // 20 bytes at 72.
-fn changed(name: &[u8], at: usize, numbers: &[u32]) {
+fn changed(rt: &impl Print, name: &[u8], at: usize, numbers: &[u32]) -> io::Result<()> {
     let mut bytes = [0; 92];
     four_items(&mut bytes);
     cases::numbers(&mut bytes, at, numbers);
-    told(name, &bytes);
+    told(rt, name, &bytes)
 }
 
 fn four_items(bytes: &mut [u8]) {
@@ -75,8 +84,8 @@ fn four_items(bytes: &mut [u8]) {
 }
 
 // A case: its name, and what is found.
-fn told(name: &[u8], bytes: &[u8]) {
-    print(found(Line::new().text(name), descriptor::check(bytes)));
+fn told(rt: &impl Print, name: &[u8], bytes: &[u8]) -> io::Result<()> {
+    print(rt, found(Line::new().text(name), descriptor::check(bytes)))
 }
 
 fn found(line: Line, finding: Finding) -> Line {
@@ -91,9 +100,9 @@ fn found(line: Line, finding: Finding) -> Line {
 }
 
 // A finished line, on standard output.
-fn print(line: Line) {
+fn print(rt: &impl Print, line: Line) -> io::Result<()> {
     let ended = line.text(b"\n");
     let bytes = ended.bytes;
     let len = ended.len;
-    io::write_all(libc::STDOUT_FILENO, wire::part(&bytes, Span { at: 0, len }));
+    rt.write_all(wire::part(&bytes, Span { at: 0, len }))
 }

@@ -1,14 +1,17 @@
 // Document 01, "EfsKey", with No. 2 of document 02: keys read and written. Each case is a line: its name, then what the library answers. The file `stdout`
 // beside src/ holds what the paper says.
+#![tactic(auto)]
+
 mod reader;
 mod writer;
 
 use line::Line;
+use std::io;
 use wire::Span;
 
-fn main() {
-    reader::run();
-    writer::run();
+fn main(rt: HostRuntime) -> io::Result<()> {
+    reader::run(&rt)?;
+    writer::run(&rt)
 }
 
 // A SID's first bytes: the authority 5 and the sub-authority 18.
@@ -17,9 +20,9 @@ fn put_sid(dst: &mut [u8], at: usize, revision: u8, count: u8) {
 }
 
 // A finished line, on standard output.
-fn print(line: Line) {
+fn print(rt: &impl Print, line: Line) -> io::Result<()> {
     let ended = line.text(b"\n");
     let bytes = ended.bytes;
     let len = ended.len;
-    io::write_all(libc::STDOUT_FILENO, wire::part(&bytes, Span { at: 0, len }));
+    rt.write_all(wire::part(&bytes, Span { at: 0, len }))
 }

@@ -4,118 +4,133 @@ use cases::FILL;
 use efskey::EfsKeyPart;
 use line::Line;
 use records::Written;
+use std::io;
 use wire::Span;
 
-pub fn run() {
-    lengths();
-    zeros();
-    near_zeros();
-    orders();
+pub fn run(rt: &impl Print) -> io::Result<()> {
+    lengths(rt)?;
+    zeros(rt)?;
+    near_zeros(rt)?;
+    orders(rt)?;
     let mut sid = [0; 12];
-    rewritten(b"key with no hint rewritten: ", 0, &sid);
-    rewritten(b"key with no hint rewritten, Reserved2 set: ", 1, &sid);
+    rewritten(rt, b"key with no hint rewritten: ", 0, &sid)?;
+    rewritten(rt, b"key with no hint rewritten, Reserved2 set: ", 1, &sid)?;
     put_sid(&mut sid, 0, 1, 1);
-    rewritten(b"key rewritten: ", 0, &sid);
-    rewritten(b"key rewritten, Reserved2 set: ", 1, &sid);
+    rewritten(rt, b"key rewritten: ", 0, &sid)?;
+    rewritten(rt, b"key rewritten, Reserved2 set: ", 1, &sid)
 }
 
-fn lengths() {
-    write(b"key writer: room to spare: ", 64, 1, 1, 12, 3);
-    write(b"key writer: empty SID: ", 64, 1, 1, 0, 1);
-    write(b"key writer: just room: ", 33, 1, 1, 0, 1);
-    write(b"key writer: a byte short: ", 32, 1, 1, 0, 1);
-    write(b"key writer: certificate of 0: ", 64, 1, 1, 12, 0);
-    write(b"key writer: SID of revision 2: ", 64, 2, 0, 8, 1);
-    write(b"key writer: a byte behind the SID: ", 64, 1, 0, 9, 1);
-    write(b"key writer: 65536 bytes: ", 64, 1, 1, 0, 65_504);
+fn lengths(rt: &impl Print) -> io::Result<()> {
+    write(rt, b"key writer: room to spare: ", 64, 1, 1, 12, 3)?;
+    write(rt, b"key writer: empty SID: ", 64, 1, 1, 0, 1)?;
+    write(rt, b"key writer: just room: ", 33, 1, 1, 0, 1)?;
+    write(rt, b"key writer: a byte short: ", 32, 1, 1, 0, 1)?;
+    write(rt, b"key writer: certificate of 0: ", 64, 1, 1, 12, 0)?;
+    write(rt, b"key writer: SID of revision 2: ", 64, 2, 0, 8, 1)?;
+    write(rt, b"key writer: a byte behind the SID: ", 64, 1, 0, 9, 1)?;
+    write(rt, b"key writer: 65536 bytes: ", 64, 1, 1, 0, 65_504)?;
     write(
+        rt,
         b"key writer: 65535 bytes in too little room: ",
         64,
         1,
         1,
         0,
         65_503,
-    );
+    )
 }
 
 // Two refusals apply: the first is the answer.
-fn orders() {
-    write(b"key writer: 1 before 7: ", 64, 1, 1, 65_504, 0);
-    write(b"key writer: 7 before 12: ", 64, 2, 0, 8, 0);
-    write(b"key writer: 12 before 13: ", 0, 2, 0, 8, 1);
+fn orders(rt: &impl Print) -> io::Result<()> {
+    write(rt, b"key writer: 1 before 7: ", 64, 1, 1, 65_504, 0)?;
+    write(rt, b"key writer: 7 before 12: ", 64, 2, 0, 8, 0)?;
+    write(rt, b"key writer: 12 before 13: ", 0, 2, 0, 8, 1)
 }
 
 // Zeros, one at least: they are written, and read back as no hint.
-fn zeros() {
-    zeroed(b"key writer: 1 zero: ", 64, 1, 1);
-    zeroed(b"key writer: 7 zeros: ", 64, 7, 1);
-    zeroed(b"key writer: 8 zeros: ", 64, 8, 1);
-    zeroed(b"key writer: 68 zeros: ", 128, 68, 1);
-    zeroed(b"key writer: the most zeros: ", 65_535, 65_502, 1);
-    zeroed(b"key writer: a zero more: ", 65_536, 65_503, 1);
-    zeroed(b"key writer: zeros, certificate of 0: ", 64, 12, 0);
-    zeroed(b"key writer: zeros, a byte short: ", 44, 12, 1);
+fn zeros(rt: &impl Print) -> io::Result<()> {
+    zeroed(rt, b"key writer: 1 zero: ", 64, 1, 1)?;
+    zeroed(rt, b"key writer: 7 zeros: ", 64, 7, 1)?;
+    zeroed(rt, b"key writer: 8 zeros: ", 64, 8, 1)?;
+    zeroed(rt, b"key writer: 68 zeros: ", 128, 68, 1)?;
+    zeroed(rt, b"key writer: the most zeros: ", 65_535, 65_502, 1)?;
+    zeroed(rt, b"key writer: a zero more: ", 65_536, 65_503, 1)?;
+    zeroed(rt, b"key writer: zeros, certificate of 0: ", 64, 12, 0)?;
+    zeroed(rt, b"key writer: zeros, a byte short: ", 44, 12, 1)
 }
 
 // One byte that is not zero, and the SID rule decides.
-fn near_zeros() {
-    marked(0);
-    marked(1);
-    marked(2);
-    marked(3);
-    marked(4);
-    marked(5);
-    marked(6);
-    marked(7);
-    marked(8);
-    marked(9);
-    marked(10);
-    marked(11);
+fn near_zeros(rt: &impl Print) -> io::Result<()> {
+    marked(rt, 0)?;
+    marked(rt, 1)?;
+    marked(rt, 2)?;
+    marked(rt, 3)?;
+    marked(rt, 4)?;
+    marked(rt, 5)?;
+    marked(rt, 6)?;
+    marked(rt, 7)?;
+    marked(rt, 8)?;
+    marked(rt, 9)?;
+    marked(rt, 10)?;
+    marked(rt, 11)?;
     given(
+        rt,
         b"key writer: SID of 0, its authority zero: ",
         64,
         &[1, 0, 0, 0, 0, 0, 0, 0],
         1,
-    );
+    )?;
     given(
+        rt,
         b"key writer: SID of 1, all else zero: ",
         64,
         &[1, 1, 0, 0, 0, 0, 0, 0, 0, 0, 0, 0],
         1,
-    );
+    )
 }
 
 // A record written into `room` bytes, with a SID of k bytes and a certificate of n.
-fn write(name: &[u8], room: usize, revision: u8, count: u8, k: usize, n: usize) {
-    let mut sid = io::large_buffer();
+fn write(
+    rt: &impl Print,
+    name: &[u8],
+    room: usize,
+    revision: u8,
+    count: u8,
+    k: usize,
+    n: usize,
+) -> io::Result<()> {
+    let mut sid = [0; 65536];
     put_sid(&mut sid, 0, revision, count);
-    given(name, room, cases::first(&sid, k), n);
+    given(rt, name, room, cases::first(&sid, k), n)
 }
 
 // The same, with k zeros for a SID.
-fn zeroed(name: &[u8], room: usize, k: usize, n: usize) {
-    let zeros = io::large_buffer();
-    given(name, room, cases::first(&zeros, k), n);
+fn zeroed(rt: &impl Print, name: &[u8], room: usize, k: usize, n: usize) -> io::Result<()> {
+    let zeros = [0; 65536];
+    given(rt, name, room, cases::first(&zeros, k), n)
 }
 
 // The same, with 12 zeros but for a 1 at that place.
-fn marked(at: usize) {
+fn marked(rt: &impl Print, at: usize) -> io::Result<()> {
     let mut area = [0; 12];
     cases::bytes(&mut area, at, &[1]);
     let name = Line::new()
         .text(b"key writer: 12 zeros, 1 at ")
         .number(at as u64);
-    put(name.text(b": "), 64, &area, 1);
+    put(rt, name.text(b": "), 64, &area, 1)
 }
 
-fn given(name: &[u8], room: usize, sid: &[u8], n: usize) {
-    put(Line::new().text(name), room, sid, n);
+fn given(rt: &impl Print, name: &[u8], room: usize, sid: &[u8], n: usize) -> io::Result<()> {
+    put(rt, Line::new().text(name), room, sid, n)
 }
 
-fn put(line: Line, room: usize, sid: &[u8], n: usize) {
+fn put(rt: &impl Print, line: Line, room: usize, sid: &[u8], n: usize) -> io::Result<()> {
     let certificate = [99; 65536];
     let mut out = [FILL; 65536];
-    print(written(line, &mut out, room, sid, cases::first(&certificate, n)));
+    print(
+        rt,
+        written(line, &mut out, room, sid, cases::first(&certificate, n)),
+    )
 }
 
 fn written(line: Line, out: &mut [u8], room: usize, sid: &[u8], certificate: &[u8]) -> Line {
@@ -154,13 +169,13 @@ fn kept(line: Line, out: &[u8], len: usize) -> Line {
 }
 
 // What was read from a record of 47 bytes, of them 12 of a SID, is written: before Reserved2, behind it, and as a whole.
-fn rewritten(name: &[u8], reserved2: u32, sid: &[u8]) {
+fn rewritten(rt: &impl Print, name: &[u8], reserved2: u32, sid: &[u8]) -> io::Result<()> {
     let mut s = [0; 47];
     let mut out = [FILL; 47];
     cases::numbers(&mut s, 0, &[47, 43, 28, 2, 3, 40, reserved2, 0]);
     cases::bytes(&mut s, 32, sid);
     cases::bytes(&mut s, 44, b"abc");
-    print(rewrite(Line::new().text(name), &mut out, &s));
+    print(rt, rewrite(Line::new().text(name), &mut out, &s))
 }
 
 fn rewrite(line: Line, out: &mut [u8], s: &[u8]) -> Line {

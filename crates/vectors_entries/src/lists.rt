@@ -5,6 +5,7 @@ use keylist::walk::Walk;
 use keylist::{ListRead, Place, Step};
 use line::Line;
 use refusal::Refusal;
+use std::io;
 
 // The head of a sound entry of 25 bytes, whose item of 4 is at 20 and whose FEK of 1 is at 24.
 const SOUND: [u32; 5] = [25, 20, 1, 24, 0];
@@ -12,95 +13,106 @@ const SOUND: [u32; 5] = [25, 20, 1, 24, 0];
 // An item in the head.
 const MISPLACED: [u32; 5] = [25, 19, 1, 24, 0];
 
-pub fn run() {
-    counts();
-    second_entries();
-    first_entries();
-    orders();
-    walks();
-    held();
-    parts();
+pub fn run(rt: &impl Print) -> io::Result<()> {
+    counts(rt)?;
+    second_entries(rt)?;
+    first_entries(rt)?;
+    orders(rt)?;
+    walks(rt)?;
+    held(rt)?;
+    parts(rt)
 }
 
-fn counts() {
-    counted(b"list: count 0 in four bytes: ", 4, 0);
-    counted(b"list: one entry: ", 29, 1);
-    counted(b"list: two entries: ", 54, 2);
-    counted(b"list: no bytes: ", 0, 0);
-    counted(b"list: 3 bytes: ", 3, 0);
-    counted(b"list: 65536 bytes: ", 65_536, 2);
-    counted(b"list: 65535 bytes: ", 65_535, 2);
-    counted(b"list: count 3, two entries: ", 54, 3);
-    counted(b"list: count 4294967295, two entries: ", 54, 4_294_967_295);
-    counted(b"list: count 4294967295, no entry: ", 4, 4_294_967_295);
-    counted(b"list: count 1, two entries: ", 54, 1);
-    counted(b"list: count 0 in five bytes: ", 5, 0);
-    counted(b"list: one byte left: ", 55, 2);
+fn counts(rt: &impl Print) -> io::Result<()> {
+    counted(rt, b"list: count 0 in four bytes: ", 4, 0)?;
+    counted(rt, b"list: one entry: ", 29, 1)?;
+    counted(rt, b"list: two entries: ", 54, 2)?;
+    counted(rt, b"list: no bytes: ", 0, 0)?;
+    counted(rt, b"list: 3 bytes: ", 3, 0)?;
+    counted(rt, b"list: 65536 bytes: ", 65_536, 2)?;
+    counted(rt, b"list: 65535 bytes: ", 65_535, 2)?;
+    counted(rt, b"list: count 3, two entries: ", 54, 3)?;
+    counted(
+        rt,
+        b"list: count 4294967295, two entries: ",
+        54,
+        4_294_967_295,
+    )?;
+    counted(rt, b"list: count 4294967295, no entry: ", 4, 4_294_967_295)?;
+    counted(rt, b"list: count 1, two entries: ", 54, 1)?;
+    counted(rt, b"list: count 0 in five bytes: ", 5, 0)?;
+    counted(rt, b"list: one byte left: ", 55, 2)
 }
 
-fn second_entries() {
-    counted(b"list: 19 bytes for the second: ", 48, 2);
-    second(b"list: second of Length 19: ", [19, 20, 1, 24, 0]);
+fn second_entries(rt: &impl Print) -> io::Result<()> {
+    counted(rt, b"list: 19 bytes for the second: ", 48, 2)?;
+    second(rt, b"list: second of Length 19: ", [19, 20, 1, 24, 0])?;
     second(
+        rt,
         b"list: second of Length 26 in 25 bytes: ",
         [26, 20, 1, 24, 0],
-    );
+    )?;
     second(
+        rt,
         b"list: second of Length 4294967295: ",
         [4_294_967_295, 20, 1, 24, 0],
-    );
-    second(b"list: second of Length 20: ", [20, 20, 1, 24, 0]);
-    second(b"list: second misplaced: ", MISPLACED);
-    second(b"list: second with an empty FEK: ", [25, 20, 0, 24, 0]);
-    second(b"list: second overlaps: ", [25, 20, 1, 23, 0]);
+    )?;
+    second(rt, b"list: second of Length 20: ", [20, 20, 1, 24, 0])?;
+    second(rt, b"list: second misplaced: ", MISPLACED)?;
+    second(rt, b"list: second with an empty FEK: ", [25, 20, 0, 24, 0])?;
+    second(rt, b"list: second overlaps: ", [25, 20, 1, 23, 0])?;
     list(
+        rt,
         b"list: second with a run of 9: ",
         63,
         2,
         SOUND,
         [34, 20, 1, 33, 0],
-    );
+    )
 }
 
-fn first_entries() {
+fn first_entries(rt: &impl Print) -> io::Result<()> {
     list(
+        rt,
         b"list: first of Length 19: ",
         54,
         2,
         [19, 20, 1, 24, 0],
         SOUND,
-    );
+    )?;
     list(
+        rt,
         b"list: first with a FEK past its end: ",
         54,
         2,
         [25, 20, 2, 24, 0],
         SOUND,
-    );
+    )
 }
 
 // Two refusals apply: the first is the answer.
-fn orders() {
-    list(b"list: 2 before 3: ", 23, 1, [19, 20, 1, 24, 0], SOUND);
-    second(b"list: 3 before 6: ", [26, 19, 1, 24, 0]);
-    list(b"list: 6 before 22: ", 54, 1, MISPLACED, SOUND);
+fn orders(rt: &impl Print) -> io::Result<()> {
+    list(rt, b"list: 2 before 3: ", 23, 1, [19, 20, 1, 24, 0], SOUND)?;
+    second(rt, b"list: 3 before 6: ", [26, 19, 1, 24, 0])?;
+    list(rt, b"list: 6 before 22: ", 54, 1, MISPLACED, SOUND)?;
     list(
+        rt,
         b"list: the first refused entry is told: ",
         54,
         2,
         MISPLACED,
         [19, 20, 1, 24, 0],
-    );
+    )
 }
 
 // The first len bytes of a list of two sound entries, with this count.
-fn counted(name: &[u8], len: usize, count: u32) {
-    list(name, len, count, SOUND, SOUND);
+fn counted(rt: &impl Print, name: &[u8], len: usize, count: u32) -> io::Result<()> {
+    list(rt, name, len, count, SOUND, SOUND)
 }
 
 // A list of two entries, of which the first is sound.
-fn second(name: &[u8], second: [u32; 5]) {
-    list(name, 54, 2, SOUND, second);
+fn second(rt: &impl Print, name: &[u8], second: [u32; 5]) -> io::Result<()> {
+    list(rt, name, 54, 2, SOUND, second)
 }
 
 // Two entries behind a count, each with an item of 4: the first at 4, the second at 29.
@@ -117,10 +129,17 @@ fn put_entry(s: &mut [u8], at: usize, head: [u32; 5]) {
 }
 
 // The first len bytes of such a list, judged.
-fn list(name: &[u8], len: usize, count: u32, first: [u32; 5], second: [u32; 5]) {
-    let mut s = io::large_buffer();
+fn list(
+    rt: &impl Print,
+    name: &[u8],
+    len: usize,
+    count: u32,
+    first: [u32; 5],
+    second: [u32; 5],
+) -> io::Result<()> {
+    let mut s = [0; 65536];
     put(&mut s, count, first, second);
-    print(judged(Line::new().text(name), cases::first(&s, len)));
+    print(rt, judged(Line::new().text(name), cases::first(&s, len)))
 }
 
 fn judged(line: Line, list: &[u8]) -> Line {
@@ -137,21 +156,21 @@ fn refused(line: Line, refusal: Refusal, index: u32) -> Line {
         .number(index as u64)
 }
 
-fn walks() {
-    walk(b"walk: two entries:", 54, 2, SOUND);
-    walk(b"walk: count 0:", 4, 0, SOUND);
-    walk(b"walk: 3 bytes:", 3, 0, SOUND);
-    walk(b"walk: 65536 bytes:", 65_536, 2, SOUND);
-    walk(b"walk: second misplaced:", 54, 2, MISPLACED);
-    walk(b"walk: one entry and bytes left:", 54, 1, SOUND);
-    walk(b"walk: count 4294967295:", 54, 4_294_967_295, SOUND);
+fn walks(rt: &impl Print) -> io::Result<()> {
+    walk(rt, b"walk: two entries:", 54, 2, SOUND)?;
+    walk(rt, b"walk: count 0:", 4, 0, SOUND)?;
+    walk(rt, b"walk: 3 bytes:", 3, 0, SOUND)?;
+    walk(rt, b"walk: 65536 bytes:", 65_536, 2, SOUND)?;
+    walk(rt, b"walk: second misplaced:", 54, 2, MISPLACED)?;
+    walk(rt, b"walk: one entry and bytes left:", 54, 1, SOUND)?;
+    walk(rt, b"walk: count 4294967295:", 54, 4_294_967_295, SOUND)
 }
 
 // Four steps over a list whose first entry is sound.
-fn walk(name: &[u8], len: usize, count: u32, second: [u32; 5]) {
-    let mut s = io::large_buffer();
+fn walk(rt: &impl Print, name: &[u8], len: usize, count: u32, second: [u32; 5]) -> io::Result<()> {
+    let mut s = [0; 65536];
     put(&mut s, count, SOUND, second);
-    print(steps(Line::new().text(name), cases::first(&s, len)));
+    print(rt, steps(Line::new().text(name), cases::first(&s, len)))
 }
 
 fn steps(line: Line, list: &[u8]) -> Line {
@@ -162,7 +181,7 @@ fn steps(line: Line, list: &[u8]) -> Line {
 }
 
 // The line so far, and the place of the next step.
-#[derive(Drop)]
+#[derive(Clone, Copy)]
 struct Walked {
     line: Line,
     place: Place,
@@ -179,19 +198,19 @@ fn step(walked: Walked, list: &[u8]) -> Walked {
 }
 
 // The same by one walk, which holds the list and its place.
-fn held() {
-    hold(b"held walk: two entries:", 54, 2, SOUND);
-    hold(b"held walk: second misplaced:", 54, 2, MISPLACED);
+fn held(rt: &impl Print) -> io::Result<()> {
+    hold(rt, b"held walk: two entries:", 54, 2, SOUND)?;
+    hold(rt, b"held walk: second misplaced:", 54, 2, MISPLACED)
 }
 
-fn hold(name: &[u8], len: usize, count: u32, second: [u32; 5]) {
-    let mut s = io::large_buffer();
+fn hold(rt: &impl Print, name: &[u8], len: usize, count: u32, second: [u32; 5]) -> io::Result<()> {
+    let mut s = [0; 65536];
     put(&mut s, count, SOUND, second);
-    print(told(Line::new().text(name), ask(cases::first(&s, len))));
+    print(rt, told(Line::new().text(name), ask(cases::first(&s, len))))
 }
 
 // What one walk answers when it is asked four times.
-#[derive(Drop)]
+#[derive(Clone, Copy)]
 struct Asked {
     one: Step,
     two: Step,
@@ -238,23 +257,26 @@ fn found(line: Line, step: Step) -> Line {
     }
 }
 
-fn parts() {
-    item(b"part: item of the second: ", SOUND, 4);
-    item(b"part: second misplaced: ", MISPLACED, 0);
+fn parts(rt: &impl Print) -> io::Result<()> {
+    item(rt, b"part: item of the second: ", SOUND, 4)?;
+    item(rt, b"part: second misplaced: ", MISPLACED, 0)
 }
 
 // Whether the second entry's item, handed out of the list, is the first n bytes of an item of 4.
-fn item(name: &[u8], second: [u32; 5], n: usize) {
-    let mut s = io::large_buffer();
+fn item(rt: &impl Print, name: &[u8], second: [u32; 5], n: usize) -> io::Result<()> {
+    let mut s = [0; 65536];
     let whole = [4, 0, 0, 0];
     put(&mut s, 2, SOUND, second);
-    print(cases::compared(
-        Line::new().text(name),
-        keylist::part(
-            cases::first(&s, 54),
-            Place { at: 29, index: 1 },
-            EntryPart::Item,
+    print(
+        rt,
+        cases::compared(
+            Line::new().text(name),
+            keylist::part(
+                cases::first(&s, 54),
+                Place { at: 29, index: 1 },
+                EntryPart::Item,
+            ),
+            cases::first(&whole, n),
         ),
-        cases::first(&whole, n),
-    ));
+    )
 }

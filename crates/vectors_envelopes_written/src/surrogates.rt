@@ -5,9 +5,10 @@ use cases::FILL;
 use envelope::Head;
 use line::Line;
 use records::Written;
+use std::io;
 
 // A text: the first len of these bytes.
-#[derive(Drop)]
+#[derive(Clone, Copy)]
 struct Spelt {
     bytes: [u8; 6],
     len: usize,
@@ -46,93 +47,122 @@ const OPEN: Spelt = Spelt {
     len: 2,
 };
 
-pub fn run() {
-    kdfs();
-    texts();
-    orders();
+pub fn run(rt: &impl Print) -> io::Result<()> {
+    kdfs(rt)?;
+    texts(rt)?;
+    orders(rt)
 }
 
-fn kdfs() {
-    kdf(b"writer, surrogates: a pair: ", 200, 3, PAIR, 0);
-    kdf(b"writer, surrogates: a pair, just room: ", 92, 3, PAIR, 0);
+fn kdfs(rt: &impl Print) -> io::Result<()> {
+    kdf(rt, b"writer, surrogates: a pair: ", 200, 3, PAIR, 0)?;
     kdf(
+        rt,
+        b"writer, surrogates: a pair, just room: ",
+        92,
+        3,
+        PAIR,
+        0,
+    )?;
+    kdf(
+        rt,
         b"writer, surrogates: a pair, a byte short: ",
         91,
         3,
         PAIR,
         0,
-    );
-    kdf(b"writer, surrogates: high: ", 200, 3, HIGH, 0);
-    kdf(b"writer, surrogates: low: ", 200, 3, LOW, 0);
-    kdf(b"writer, surrogates: low, high: ", 200, 3, TURNED, 0);
-    kdf(b"writer, surrogates: no terminator: ", 200, 3, OPEN, 0);
+    )?;
+    kdf(rt, b"writer, surrogates: high: ", 200, 3, HIGH, 0)?;
+    kdf(rt, b"writer, surrogates: low: ", 200, 3, LOW, 0)?;
+    kdf(rt, b"writer, surrogates: low, high: ", 200, 3, TURNED, 0)?;
+    kdf(rt, b"writer, surrogates: no terminator: ", 200, 3, OPEN, 0)
 }
 
 // The other three texts; and where two are refused, the first of them is the answer.
-fn texts() {
-    write(b"writer, surrogates: pairs: ", PAIR, PAIR, PAIR, PAIR);
+fn texts(rt: &impl Print) -> io::Result<()> {
+    write(rt, b"writer, surrogates: pairs: ", PAIR, PAIR, PAIR, PAIR)?;
     write(
+        rt,
         b"writer, surrogates: high in the agreement algorithm: ",
         EMPTY,
         HIGH,
         EMPTY,
         EMPTY,
-    );
+    )?;
     write(
+        rt,
         b"writer, surrogates: high in the domain: ",
         EMPTY,
         EMPTY,
         HIGH,
         EMPTY,
-    );
+    )?;
     write(
+        rt,
         b"writer, surrogates: high in the forest: ",
         EMPTY,
         EMPTY,
         EMPTY,
         HIGH,
-    );
+    )?;
     write(
+        rt,
         b"writer, surrogates: high, and low in the next text: ",
         HIGH,
         LOW,
         EMPTY,
         EMPTY,
-    );
+    )?;
     write(
+        rt,
         b"writer, surrogates: 24, then 10: ",
         HIGH,
         OPEN,
         EMPTY,
         EMPTY,
-    );
+    )?;
     write(
+        rt,
         b"writer, surrogates: 10, then 24: ",
         OPEN,
         HIGH,
         EMPTY,
         EMPTY,
-    );
+    )
 }
 
 // Two refusals apply: the first is the answer.
-fn orders() {
-    kdf(b"envelope writer: 5 before 24: ", 200, 32, HIGH, 0);
-    kdf(b"envelope writer: 24 before 11: ", 200, 3, HIGH, 63);
-    kdf(b"envelope writer: 24 before 13: ", 0, 3, HIGH, 0);
+fn orders(rt: &impl Print) -> io::Result<()> {
+    kdf(rt, b"envelope writer: 5 before 24: ", 200, 32, HIGH, 0)?;
+    kdf(rt, b"envelope writer: 24 before 11: ", 200, 3, HIGH, 63)?;
+    kdf(rt, b"envelope writer: 24 before 13: ", 0, 3, HIGH, 0)
 }
 
 // A seed envelope at (5, l1, 7) with this KDF algorithm and an L1 key of so many zeros.
-fn kdf(name: &[u8], room: usize, l1: u32, kdf: Spelt, l1_key: usize) {
-    put(name, room, l1, kdf, EMPTY, EMPTY, EMPTY, l1_key);
+fn kdf(
+    rt: &impl Print,
+    name: &[u8],
+    room: usize,
+    l1: u32,
+    kdf: Spelt,
+    l1_key: usize,
+) -> io::Result<()> {
+    put(rt, name, room, l1, kdf, EMPTY, EMPTY, EMPTY, l1_key)
 }
 
 // A keyless envelope at (5, 3, 7) with these texts.
-fn write(name: &[u8], kdf: Spelt, agreement: Spelt, domain: Spelt, forest: Spelt) {
-    put(name, 200, 3, kdf, agreement, domain, forest, 0);
+fn write(
+    rt: &impl Print,
+    name: &[u8],
+    kdf: Spelt,
+    agreement: Spelt,
+    domain: Spelt,
+    forest: Spelt,
+) -> io::Result<()> {
+    put(rt, name, 200, 3, kdf, agreement, domain, forest, 0)
 }
 
 fn put(
+    rt: &impl Print,
     name: &[u8],
     room: usize,
     l1: u32,
@@ -141,19 +171,22 @@ fn put(
     domain: Spelt,
     forest: Spelt,
     l1_key: usize,
-) {
+) -> io::Result<()> {
     let mut out = [FILL; 200];
-    print(written(
-        Line::new().text(name),
-        &mut out,
-        room,
-        head_at(0, l1, 7, 0),
-        kdf,
-        agreement,
-        domain,
-        forest,
-        l1_key,
-    ));
+    print(
+        rt,
+        written(
+            Line::new().text(name),
+            &mut out,
+            room,
+            head_at(0, l1, 7, 0),
+            kdf,
+            agreement,
+            domain,
+            forest,
+            l1_key,
+        ),
+    )
 }
 
 fn written(

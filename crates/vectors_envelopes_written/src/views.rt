@@ -5,14 +5,16 @@ use cases::MARK;
 use envelope::{Bodies, EnvelopePart, EnvelopeRead, Head};
 use input::Input;
 use line::Line;
+use std::io;
+use std::io::Read;
 use wire::Span;
 
-pub fn run() {
-    own();
-    peer();
+pub fn run(rt: &impl Print, from: &mut impl Read) -> io::Result<()> {
+    own(rt)?;
+    peer(rt, from)
 }
 
-fn own() {
+fn own(rt: &impl Print) -> io::Result<()> {
     let mut s = [0; 226];
     cases::envelope(
         &mut s,
@@ -21,57 +23,62 @@ fn own() {
         [4, 1, 2, 3, 9, 10, 64, 64, 6, 2],
     );
     cases::bytes(&mut s, 80, b"a\0\0\0p\0\0qrsb\0c\0\0\0\0\0key");
-    view(&s);
+    view(rt, &s)
 }
 
-fn peer() {
-    let mut buffer = io::large_buffer();
-    if let Input::Bytes(len) = input::read_all(libc::STDIN_FILENO, &mut buffer) {
+fn peer(rt: &impl Print, from: &mut impl Read) -> io::Result<()> {
+    let mut buffer = [0; 65536];
+    if let Input::Bytes(len) = input::read_all(from, &mut buffer) {
         let s = cases::first(&buffer, len);
-        print(envline::shown(Line::new().text(b"peer: "), s));
-        view(s);
-        names(s);
+        print(rt, envline::shown(Line::new().text(b"peer: "), s))?;
+        view(rt, s)?;
+        names(rt, s)?;
     }
+    Ok(())
 }
 
 // The names in the peer's texts.
-fn names(s: &[u8]) {
+fn names(rt: &impl Print, s: &[u8]) -> io::Result<()> {
     named(
+        rt,
         b"peer: KDF algorithm: ",
         envelope::part(s, EnvelopePart::Kdf),
         b"S\0P\08\00\00\0_\01\00\08\0_\0C\0T\0R\0_\0H\0M\0A\0C\0\0\0",
-    );
+    )?;
     named(
+        rt,
         b"peer: agreement algorithm: ",
         envelope::part(s, EnvelopePart::Agreement),
         b"D\0H\0\0\0",
-    );
+    )?;
     named(
+        rt,
         b"peer: domain: ",
         envelope::part(s, EnvelopePart::Domain),
         b"e\0x\0a\0m\0p\0l\0e\0.\0c\0o\0m\0\0\0",
-    );
+    )?;
     named(
+        rt,
         b"peer: forest: ",
         envelope::part(s, EnvelopePart::Forest),
         envelope::part(s, EnvelopePart::Domain),
-    );
+    )
 }
 
-fn named(name: &[u8], text: &[u8], expected: &[u8]) {
-    print(cases::compared(Line::new().text(name), text, expected));
+fn named(rt: &impl Print, name: &[u8], text: &[u8], expected: &[u8]) -> io::Result<()> {
+    print(rt, cases::compared(Line::new().text(name), text, expected))
 }
 
-fn view(s: &[u8]) {
+fn view(rt: &impl Print, s: &[u8]) -> io::Result<()> {
     let line = Line::new().text(b"envelope: all values: ");
     match envelope::read(s) {
         EnvelopeRead::Accepted(envelope) => {
             let head = envelope.head;
             let bodies = envelope.bodies;
-            print(show_bodies(show_head(line, head), bodies));
-            rewritten(head, s);
+            print(rt, show_bodies(show_head(line, head), bodies))?;
+            rewritten(rt, head, s)
         }
-        EnvelopeRead::Refused(refusal) => print(words::refused(line, refusal)),
+        EnvelopeRead::Refused(refusal) => print(rt, words::refused(line, refusal)),
     }
 }
 
@@ -116,12 +123,13 @@ fn place(line: Line, span: Span) -> Line {
 }
 
 // What was read from an accepted envelope is written into as many bytes, and they are compared.
-fn rewritten(head: Head, s: &[u8]) {
-    let mut out = io::large_buffer();
+fn rewritten(rt: &impl Print, head: Head, s: &[u8]) -> io::Result<()> {
+    let mut out = [0; 65536];
     if s.len() <= out.len() {
         let line = Line::new().text(b"envelope rewritten: ");
-        print(rewrite(line, &mut out[0..s.len()], head, s));
+        print(rt, rewrite(line, &mut out[0..s.len()], head, s))?;
     }
+    Ok(())
 }
 
 fn rewrite(line: Line, out: &mut [u8], head: Head, s: &[u8]) -> Line {

@@ -1,10 +1,13 @@
 // Document 02, No. 1: data segment headers read and written. Each case is a line: its name, then what the library answers. The file
 // `stdout` beside src/ holds what the paper says.
+#![tactic(auto)]
+
 mod reader;
 mod sizes;
 mod writer;
 
 use line::Line;
+use std::io;
 use wire::Span;
 
 // The bytes from 20 on of a header with three blocks: two zeros, the three shifts, 01 and the block count.
@@ -13,10 +16,10 @@ const THREE: [u8; 8] = [0, 0, 12, 12, 9, 1, 3, 0];
 // The same with 16,376 blocks, as many as there can be.
 const MOST: [u8; 8] = [0, 0, 12, 12, 9, 1, 248, 63];
 
-fn main() {
-    reader::run();
-    sizes::run();
-    writer::run();
+fn main(rt: HostRuntime) -> io::Result<()> {
+    reader::run(&rt)?;
+    sizes::run(&rt)?;
+    writer::run(&rt)
 }
 
 // The numbers in front of those bytes: the start offset 4,294,967,298, Length, 3 bytes in the stream and 4 in the VDL.
@@ -32,9 +35,9 @@ fn put(s: &mut [u8], front: [u32; 5], fixed: [u8; 8], sizes: &[u32]) {
 }
 
 // A finished line, on standard output.
-fn print(line: Line) {
+fn print(rt: &impl Print, line: Line) -> io::Result<()> {
     let ended = line.text(b"\n");
     let bytes = ended.bytes;
     let len = ended.len;
-    io::write_all(libc::STDOUT_FILENO, wire::part(&bytes, Span { at: 0, len }));
+    rt.write_all(wire::part(&bytes, Span { at: 0, len }))
 }

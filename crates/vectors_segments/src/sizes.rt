@@ -2,43 +2,55 @@
 use crate::{MOST, THREE, front, print, put};
 use line::Line;
 use segment::SizeRead;
+use std::io;
 
-pub fn run() {
-    three();
-    others();
+pub fn run(rt: &impl Print) -> io::Result<()> {
+    three(rt)?;
+    others(rt)
 }
 
-fn three() {
-    asked(b"size at 0: ", 0, THREE);
-    asked(b"size at 1: ", 1, THREE);
-    asked(b"size at 2: ", 2, THREE);
-    asked(b"size at 3: ", 3, THREE);
-    asked(b"size at 2^62: ", 4_611_686_018_427_387_904, THREE);
-    asked(b"size at 2^64 - 1: ", 18_446_744_073_709_551_615, THREE);
+fn three(rt: &impl Print) -> io::Result<()> {
+    asked(rt, b"size at 0: ", 0, THREE)?;
+    asked(rt, b"size at 1: ", 1, THREE)?;
+    asked(rt, b"size at 2: ", 2, THREE)?;
+    asked(rt, b"size at 3: ", 3, THREE)?;
+    asked(rt, b"size at 2^62: ", 4_611_686_018_427_387_904, THREE)?;
+    asked(rt, b"size at 2^64 - 1: ", 18_446_744_073_709_551_615, THREE)
 }
 
-fn others() {
-    asked(b"size at 2, two blocks: ", 2, [0, 0, 12, 12, 9, 1, 2, 0]);
-    asked(b"size at 0, no block: ", 0, [0, 0, 12, 12, 9, 1, 0, 0]);
-    asked(b"size at 0, refused: ", 0, [0, 0, 12, 13, 9, 1, 3, 0]);
-    asked(b"size at 3, refused: ", 3, [0, 0, 12, 12, 9, 0, 3, 0]);
-    last(b"size at 16375: ", 16_375);
-    last(b"size at 16376: ", 16_376);
+fn others(rt: &impl Print) -> io::Result<()> {
+    asked(
+        rt,
+        b"size at 2, two blocks: ",
+        2,
+        [0, 0, 12, 12, 9, 1, 2, 0],
+    )?;
+    asked(rt, b"size at 0, no block: ", 0, [0, 0, 12, 12, 9, 1, 0, 0])?;
+    asked(rt, b"size at 0, refused: ", 0, [0, 0, 12, 13, 9, 1, 3, 0])?;
+    asked(rt, b"size at 3, refused: ", 3, [0, 0, 12, 12, 9, 0, 3, 0])?;
+    last(rt, b"size at 16375: ", 16_375)?;
+    last(rt, b"size at 16376: ", 16_376)
 }
 
 // A header of 40 bytes, with three sizes.
-fn asked(name: &[u8], index: usize, fixed: [u8; 8]) {
+fn asked(rt: &impl Print, name: &[u8], index: usize, fixed: [u8; 8]) -> io::Result<()> {
     let mut s = [255; 64];
     put(&mut s, front(40), fixed, &[4096, 4097, 0]);
-    print(size(Line::new().text(name), cases::first(&s, 40), index));
+    print(
+        rt,
+        size(Line::new().text(name), cases::first(&s, 40), index),
+    )
 }
 
 // A header of 16,376 blocks, with 16,377 sizes.
-fn last(name: &[u8], index: usize) {
+fn last(rt: &impl Print, name: &[u8], index: usize) -> io::Result<()> {
     let mut s = [255; 65536];
     let sizes = [4097; 16377];
     put(&mut s, front(65_535), MOST, &sizes);
-    print(size(Line::new().text(name), cases::first(&s, 65_535), index));
+    print(
+        rt,
+        size(Line::new().text(name), cases::first(&s, 65_535), index),
+    )
 }
 
 fn size(line: Line, s: &[u8], index: usize) -> Line {

@@ -4,111 +4,133 @@ use cases::FILL;
 use line::Line;
 use records::Written;
 use segment::{Head, SegmentRead, SizeRead};
+use std::io;
 use wire::Span;
 
-pub fn run() {
-    lengths();
-    shifts();
-    limits();
-    orders();
-    rewritten(b"segment rewritten: ", 36);
-    rewritten(b"segment rewritten, 4 bytes behind: ", 40);
+pub fn run(rt: &impl Print) -> io::Result<()> {
+    lengths(rt)?;
+    shifts(rt)?;
+    limits(rt)?;
+    orders(rt)?;
+    rewritten(rt, b"segment rewritten: ", 36)?;
+    rewritten(rt, b"segment rewritten, 4 bytes behind: ", 40)
 }
 
-fn lengths() {
-    three(b"segment writer: room to spare: ", 64);
-    three(b"segment writer: just room: ", 40);
-    three(b"segment writer: a byte short: ", 39);
-    three(b"segment writer: no room: ", 0);
-    none(b"segment writer: no block: ", 28);
-    none(b"segment writer: no block, a byte short: ", 27);
-    highest(b"segment writer: shifts of 31: ", 65_536);
+fn lengths(rt: &impl Print) -> io::Result<()> {
+    three(rt, b"segment writer: room to spare: ", 64)?;
+    three(rt, b"segment writer: just room: ", 40)?;
+    three(rt, b"segment writer: a byte short: ", 39)?;
+    three(rt, b"segment writer: no room: ", 0)?;
+    none(rt, b"segment writer: no block: ", 28)?;
+    none(rt, b"segment writer: no block, a byte short: ", 27)?;
+    highest(rt, b"segment writer: shifts of 31: ", 65_536)
 }
 
-fn shifts() {
-    shifted(b"segment writer: chunk shift 13: ", 64, 12, 13, 9);
-    shifted(b"segment writer: unit shift 13: ", 64, 13, 12, 9);
-    shifted(b"segment writer: unit and chunk 32: ", 64, 32, 32, 9);
-    shifted(b"segment writer: cluster shift 32: ", 64, 12, 12, 32);
-    shifted(b"segment writer: chunk shift 268: ", 64, 12, 268, 9);
-    shifted(b"segment writer: unit and chunk 268: ", 64, 268, 268, 9);
-    shifted(b"segment writer: cluster shift 265: ", 64, 12, 12, 265);
+fn shifts(rt: &impl Print) -> io::Result<()> {
+    shifted(rt, b"segment writer: chunk shift 13: ", 64, 12, 13, 9)?;
+    shifted(rt, b"segment writer: unit shift 13: ", 64, 13, 12, 9)?;
+    shifted(rt, b"segment writer: unit and chunk 32: ", 64, 32, 32, 9)?;
+    shifted(rt, b"segment writer: cluster shift 32: ", 64, 12, 12, 32)?;
+    shifted(rt, b"segment writer: chunk shift 268: ", 64, 12, 268, 9)?;
+    shifted(rt, b"segment writer: unit and chunk 268: ", 64, 268, 268, 9)?;
+    shifted(rt, b"segment writer: cluster shift 265: ", 64, 12, 12, 265)?;
     shifted(
+        rt,
         b"segment writer: cluster shift 4294967295: ",
         64,
         12,
         12,
         4_294_967_295,
-    );
+    )
 }
 
-fn limits() {
-    many(b"segment writer: 16376 blocks: ", 65_532, 16_376, 12);
+fn limits(rt: &impl Print) -> io::Result<()> {
+    many(rt, b"segment writer: 16376 blocks: ", 65_532, 16_376, 12)?;
     many(
+        rt,
         b"segment writer: 16376 blocks, a byte short: ",
         65_531,
         16_376,
         12,
-    );
-    many(b"segment writer: 16377 blocks: ", 65_536, 16_377, 12);
-    many(b"segment writer: 65536 blocks: ", 65_536, 65_536, 12);
+    )?;
+    many(rt, b"segment writer: 16377 blocks: ", 65_536, 16_377, 12)?;
+    many(rt, b"segment writer: 65536 blocks: ", 65_536, 65_536, 12)
 }
 
 // Two refusals apply: the first is the answer.
-fn orders() {
-    many(b"segment writer: 1 before 25: ", 65_536, 16_377, 13);
-    many(b"segment writer: 1 before 13: ", 0, 16_377, 12);
-    shifted(b"segment writer: 25 before 13: ", 31, 12, 13, 9);
+fn orders(rt: &impl Print) -> io::Result<()> {
+    many(rt, b"segment writer: 1 before 25: ", 65_536, 16_377, 13)?;
+    many(rt, b"segment writer: 1 before 13: ", 0, 16_377, 12)?;
+    shifted(rt, b"segment writer: 25 before 13: ", 31, 12, 13, 9)
 }
 
 // Three blocks.
-fn three(name: &[u8], room: usize) {
-    write(name, room, head(12, 12, 9), 40, THREE, &[4096, 4097, 0]);
+fn three(rt: &impl Print, name: &[u8], room: usize) -> io::Result<()> {
+    write(rt, name, room, head(12, 12, 9), 40, THREE, &[4096, 4097, 0])
 }
 
 // No block.
-fn none(name: &[u8], room: usize) {
+fn none(rt: &impl Print, name: &[u8], room: usize) -> io::Result<()> {
     let sizes = [0; 1];
     write(
+        rt,
         name,
         room,
         head(12, 12, 9),
         28,
         [0, 0, 12, 12, 9, 1, 0, 0],
         &sizes[0..0],
-    );
+    )
 }
 
 // Shifts as high as they can be.
-fn highest(name: &[u8], room: usize) {
+fn highest(rt: &impl Print, name: &[u8], room: usize) -> io::Result<()> {
     write(
+        rt,
         name,
         room,
         head(31, 31, 31),
         36,
         [0, 0, 31, 31, 31, 1, 2, 0],
         &[2_147_483_648, 2_147_483_649],
-    );
+    )
 }
 
 // A block, with shifts that are refused.
-fn shifted(name: &[u8], room: usize, unit: u32, chunk: u32, cluster: u32) {
-    write(name, room, head(unit, chunk, cluster), 32, [0; 8], &[4096]);
+fn shifted(
+    rt: &impl Print,
+    name: &[u8],
+    room: usize,
+    unit: u32,
+    chunk: u32,
+    cluster: u32,
+) -> io::Result<()> {
+    write(
+        rt,
+        name,
+        room,
+        head(unit, chunk, cluster),
+        32,
+        [0; 8],
+        &[4096],
+    )
 }
 
 // Blocks of 4097 bytes, of which 16,376 are accepted.
-fn many(name: &[u8], room: usize, blocks: usize, chunk: u32) {
+fn many(rt: &impl Print, name: &[u8], room: usize, blocks: usize, chunk: u32) -> io::Result<()> {
     let sizes = [4097; 65536];
     if blocks <= 65_536 {
         write(
+            rt,
             name,
             room,
             head(12, chunk, 9),
             65_532,
             MOST,
             &sizes[0..blocks],
-        );
+        )?;
     }
+    Ok(())
 }
 
 fn head(unit_shift: u32, chunk_shift: u32, cluster_shift: u32) -> Head {
@@ -123,17 +145,28 @@ fn head(unit_shift: u32, chunk_shift: u32, cluster_shift: u32) -> Head {
 }
 
 // A header written into `room` bytes. Where it is accepted, Length and the bytes from 20 on have to be these.
-fn write(name: &[u8], room: usize, head: Head, length: u32, fixed: [u8; 8], sizes: &[u32]) {
+fn write(
+    rt: &impl Print,
+    name: &[u8],
+    room: usize,
+    head: Head,
+    length: u32,
+    fixed: [u8; 8],
+    sizes: &[u32],
+) -> io::Result<()> {
     let mut out = [FILL; 65536];
-    print(written(
-        Line::new().text(name),
-        &mut out,
-        room,
-        head,
-        length,
-        fixed,
-        sizes,
-    ));
+    print(
+        rt,
+        written(
+            Line::new().text(name),
+            &mut out,
+            room,
+            head,
+            length,
+            fixed,
+            sizes,
+        ),
+    )
 }
 
 fn written(
@@ -171,7 +204,7 @@ fn kept(line: Line, out: &[u8]) -> Line {
 }
 
 // What was read from a header of two blocks is written: before Length, behind it, and as a whole.
-fn rewritten(name: &[u8], len: u32) {
+fn rewritten(rt: &impl Print, name: &[u8], len: u32) -> io::Result<()> {
     let mut s = [255; 40];
     put(
         &mut s,
@@ -179,7 +212,10 @@ fn rewritten(name: &[u8], len: u32) {
         [0, 0, 12, 12, 9, 1, 2, 0],
         &[4096, 4097],
     );
-    print(rewrite(Line::new().text(name), cases::first(&s, len as usize)));
+    print(
+        rt,
+        rewrite(Line::new().text(name), cases::first(&s, len as usize)),
+    )
 }
 
 fn rewrite(line: Line, s: &[u8]) -> Line {

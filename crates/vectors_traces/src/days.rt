@@ -1,59 +1,70 @@
 // Traces of several records, each for the latest with seed rights and the verdict yes unless it says otherwise: byte 0x50. The byte 0x51 has a
 // spare bit set, which is 26; 0x40 has the verdict no, which is 16.
 use crate::{LATEST, NOW, print, recorded, told};
+use std::io;
 
-pub fn run() {
-    empty();
+pub fn run(rt: &impl Print) -> io::Result<()> {
+    empty(rt)?;
     three(
+        rt,
         b"clocks that rise\n",
         [NOW, NOW + 1, NOW + 2],
         [0x50, 0x50, 0x50],
-    );
-    three(b"equal clocks\n", [NOW, NOW, NOW], [0x50, 0x50, 0x50]);
+    )?;
+    three(rt, b"equal clocks\n", [NOW, NOW, NOW], [0x50, 0x50, 0x50])?;
     three(
+        rt,
         b"clocks that go back twice\n",
         [NOW + 2, NOW + 1, NOW],
         [0x50, 0x50, 0x50],
-    );
+    )?;
     three(
+        rt,
         b"26 between clocks that go back\n",
         [NOW + 2, NOW + 3, NOW],
         [0x50, 0x51, 0x50],
-    );
+    )?;
     three(
+        rt,
         b"26 goes back alone\n",
         [NOW + 2, NOW, NOW + 2],
         [0x50, 0x51, 0x50],
-    );
-    three(b"26 first\n", [NOW + 2, NOW + 1, NOW], [0x51, 0x50, 0x50]);
+    )?;
     three(
+        rt,
+        b"26 first\n",
+        [NOW + 2, NOW + 1, NOW],
+        [0x51, 0x50, 0x50],
+    )?;
+    three(
+        rt,
         b"a refused record counts for the clock\n",
         [NOW + 2, NOW, NOW + 1],
         [0x50, 0x40, 0x50],
-    );
-    cut(b"a part of a record at the end\n");
-    created(b"no row: created anew each time\n");
+    )?;
+    cut(rt, b"a part of a record at the end\n")?;
+    created(rt, b"no row: created anew each time\n")
 }
 
-fn empty() {
+fn empty(rt: &impl Print) -> io::Result<()> {
     let s = [0u8; 0];
-    day(b"no record\n", &[0; 32], &s);
+    day(rt, b"no record\n", &[0; 32], &s)
 }
 
-fn three(name: &[u8], clocks: [u64; 3], flags: [u8; 3]) {
+fn three(rt: &impl Print, name: &[u8], clocks: [u64; 3], flags: [u8; 3]) -> io::Result<()> {
     let s = trace(clocks, flags);
-    day(name, &[0; 32], &s);
+    day(rt, name, &[0; 32], &s)
 }
 
 // Two records and 36 bytes of a third.
-fn cut(name: &[u8]) {
+fn cut(rt: &impl Print, name: &[u8]) -> io::Result<()> {
     let s = trace([NOW, NOW, 0], [0x50, 0x50, 0x50]);
-    day(name, &[0; 32], cases::first(&s, 110));
+    day(rt, name, &[0; 32], cases::first(&s, 110))
 }
 
-fn created(name: &[u8]) {
+fn created(rt: &impl Print, name: &[u8]) -> io::Result<()> {
     let s = trace([NOW, NOW, NOW], [0x50, 0x30, 0x10]);
-    day(name, &[0; 0], &s);
+    day(rt, name, &[0; 0], &s)
 }
 
 fn trace(clocks: [u64; 3], flags: [u8; 3]) -> [u8; 111] {
@@ -67,8 +78,8 @@ fn trace(clocks: [u64; 3], flags: [u8; 3]) -> [u8; 111] {
     s
 }
 
-fn day(name: &[u8], table: &[u8], trace: &[u8]) {
-    let state = told(name, table, trace);
+fn day(rt: &impl Print, name: &[u8], table: &[u8], trace: &[u8]) -> io::Result<()> {
+    let state = told(rt, name, table, trace)?;
     let tally = state.tally;
-    print(report::total_line(tally));
+    print(rt, report::total_line(tally))
 }

@@ -1,10 +1,13 @@
 // Document 02, No. 7: recorded requests and traces of them. A case of one record is its name and its line; a case of a trace is its name, then
 // its lines and the total. The file `stdout` beside src/ holds what the papers say.
+#![tactic(auto)]
+
 mod days;
 mod records;
 
 use line::Line;
 use report::State;
+use std::io;
 use wire::Span;
 
 // Document 01's reading for (5,3,7).
@@ -13,9 +16,9 @@ const NOW: u64 = 1880280000000000;
 // -1 in two's complement.
 const LATEST: u32 = 0xffff_ffff;
 
-fn main() {
-    records::run();
-    days::run();
+fn main(rt: HostRuntime) -> io::Result<()> {
+    records::run(&rt)?;
+    days::run(&rt)
 }
 
 // A record: its clock, the byte of root given 1 bit, rights 2, verdict 1 and spare 4, and the three indices; the identifier is zero.
@@ -42,18 +45,18 @@ fn put(dst: &mut [u8], at: usize, x: u32) {
 }
 
 // The name and the lines of a trace of a few records; the state behind them.
-fn told(name: &[u8], table: &[u8], trace: &[u8]) -> State {
-    print(Line::new().text(name));
+fn told(rt: &impl Print, name: &[u8], table: &[u8], trace: &[u8]) -> io::Result<State> {
+    print(rt, Line::new().text(name))?;
     let mut out = [0u8; 1024];
     let progress = report::replay(&mut out, State::new(), table, trace, true);
     let len = progress.written;
-    io::write_all(libc::STDOUT_FILENO, wire::part(&out, Span { at: 0, len }));
+    rt.write_all(wire::part(&out, Span { at: 0, len }))?;
     let state = progress.state;
-    state
+    Ok(state)
 }
 
-fn print(line: Line) {
+fn print(rt: &impl Print, line: Line) -> io::Result<()> {
     let bytes = line.bytes;
     let len = line.len;
-    io::write_all(libc::STDOUT_FILENO, wire::part(&bytes, Span { at: 0, len }));
+    rt.write_all(wire::part(&bytes, Span { at: 0, len }))
 }

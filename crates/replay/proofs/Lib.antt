@@ -1,0 +1,2 @@
+mod Pieces
+mod Whole

@@ -1,0 +1,34 @@
+-- `replay_trace`: each turn replays a chunk of whole records, the last one the end of the trace.
+use Rattle.std.proofs.Common.{arith, ◌≡◌, sym, subst}
+use Rattle.std.specs.Prelude.{Result, Ok, Err, IfErr, IsErrAnd}
+use borrow.Author.Tests.{lt-ltb, le-ltb}
+use Rattle.std.proofs.lemmas.Result.{on_ok_weaker}
+use Rattle.replay.proofs.Whole.{begun, goes_on, reported, cut_lines}
+use Rattle.replay.proofs.replay_trace.Goals as goal
+
+-- what holds of the error that `?` found holds of the one that it answers
+told : {T E : Type 0} (r : Result T E) (x : E) (P : E → Type 0) → IsErrAnd r (λ y. y ≡ x) → P x → IfErr r P
+told (Ok t) x P h p = tt
+told (Err y) x P h p = subst P (sym h) p
+
+pub loop-init : goal.loop-init
+loop-init g c = begun _ _ _ _ c.new-state.ensures
+
+pub loop-preserved : goal.loop-preserved
+loop-preserved g c =
+    let read = c.read_all in
+    goes_on _ _ _ _ _ _ c.loop.invariant read.new.buffer c.part-records.result.now c.in-Bytes.len c.in-Bytes.ensures.within c.part-records.ensures.bytes _ c.in-Bytes.ensures.bytes
+    1771 (omega (arith, c.in-Bytes.ensures.within)) _ (le-ltb c.in-Bytes.len 65527 c.if-ends.false) _ _ c.in_ok-state.ensures.state c.in_ok-state.ensures.text
+
+pub returns-then-ends-clause-whole : goal.returns-then-ends-clause-whole
+returns-then-ends-clause-whole g c =
+    let read = c.read_all in
+    on_ok_weaker c.print_total.result
+    (λ total. reported _ _ _ _ _ _ c.loop.invariant read.new.buffer c.part-records.result.now c.in-Bytes.len c.in-Bytes.ensures.within c.part-records.ensures.bytes _ c.in-Bytes.ensures.bytes
+    (c.in-Bytes.ensures.whole (omega arith)) _ (lt-ltb c.in-Bytes.len 65527 c.if-ends.true) _ _ _ c.in_ok-state.ensures.state c.in_ok-state.ensures.text total)
+    c.print_total.ensures.written
+
+pub returns-in_err-state-clause-cut : goal.returns-in_err-state-clause-cut
+returns-in_err-state-clause-cut g c =
+    told c.from_residual.result c.in_err-state.field-0.0 _ c.from_residual.ensures.1
+    (λ other. cut_lines _ _ _ _ _ _ c.loop.invariant _ _ (c.in_err-state.ensures.cut other))
