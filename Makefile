@@ -10,14 +10,14 @@ CARGO = cargo --offline --quiet
 PROFILE = measured
 CFLAGS = -std=c99 -Wall -Wextra -Werror -pedantic -O2
 VECTORS := $(shell sed -n 's/^\(vectors_[a-z_]*\):.*/\1/p' crates.txt)
-SOURCES := crates.txt include/gishwarem.h $(shell find crates -name '*.rt' -o -name '*.antt')
+SOURCES := crates.txt include/gishwarem.h $(shell find crates -name out -prune -o \( -name "*.rt" -o -name "*.antt" \) -print)
 
 run:
-	@scripts/prove check envinfo replay
-	@target/bin/envinfo < crates/vectors_envelopes_written/stdin
-	@target/bin/envinfo < crates/envinfo/stdin
-	@target/bin/replay crates/replay/data/table < crates/replay/stdin
-	@echo "On files of your own: target/bin/envinfo < FILE, target/bin/replay TABLE < TRACE"
+	@scripts/prove envinfo replay
+	@crates/envinfo/out/envinfo < crates/vectors_envelopes_written/stdin
+	@crates/envinfo/out/envinfo < crates/envinfo/stdin
+	@crates/replay/out/replay crates/replay/data/table < crates/replay/stdin
+	@echo "On files of your own: crates/envinfo/out/envinfo < FILE, crates/replay/out/replay TABLE < TRACE"
 
 test:
 	@scripts/gate
@@ -26,8 +26,8 @@ lib: build/libgishwarem.a
 	@echo "build/libgishwarem.a and build/gishwarem.h"
 
 build/libgishwarem.a: $(SOURCES)
-	@scripts/prove check gishwarem && scripts/prove staticlib gishwarem
-	@mkdir -p build && cp target/staticlib/libgishwarem.a include/gishwarem.h build/
+	@scripts/prove gishwarem
+	@mkdir -p build && cp crates/gishwarem/out/libgishwarem.a include/gishwarem.h build/
 
 bench: lib
 	@cd rust && $(CARGO) run --profile $(PROFILE) --bin bench
@@ -37,15 +37,15 @@ count: lib
 	@scripts/count rust/target/$(PROFILE)/bench
 
 bench-replay: lib
-	@scripts/prove check replay
-	@PROFILE=$(PROFILE) scripts/bench-replay target/bin/replay
+	@scripts/prove replay
+	@PROFILE=$(PROFILE) scripts/bench-replay crates/replay/out/replay
 
 soak: lib
 	@cd rust && $(CARGO) run --release --bin soak
 
 vectors:
-	@scripts/prove check $(VECTORS)
-	@for program in $(VECTORS); do target/bin/$$program; done
+	@scripts/prove $(VECTORS)
+	@for program in $(VECTORS); do input=crates/$$program/stdin; test -f $$input || input=/dev/null; crates/$$program/out/$$program < $$input; done
 
 # The example host on its kept files.
 host: build/host
@@ -58,4 +58,4 @@ doc: lib
 	@cd rust && $(CARGO) doc --no-deps -p gishwarem
 
 fmt:
-	@rt fmt && cd rust && cargo fmt
+	@for crate in crates/*/; do (cd $$crate && rt fmt) || exit 1; done; cd rust && cargo fmt

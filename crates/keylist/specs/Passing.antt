@@ -1,5 +1,5 @@
 -- What the judge's own pass asks at each place. Only the contract of a private function cites this, and nobody has to believe it: the
--- laws `turn_on` and `turn-refused` (proofs/Stepping) tie it to `list_of`.
+-- laws `turn_on` and `turn_refused` (proofs/Stepping) tie it to `list_of`.
 use Rattle.std.specs.Prelude.{ℕ, List}
 use Rattle.refusal.specs.Chain.{first_of, unless_refused}
 use Rattle.keylist.specs.declared.Bounds.{Bounds}

@@ -1,5 +1,5 @@
 -- What the code's one pass over the rows keeps. Only the contracts of private functions cite this, and nobody has to believe it: the law
--- `best-row` (proofs/Choice) says that it comes to `chosenRow`.
+-- `best_row` (proofs/Choice) says that it comes to `chosen_row`.
 use Rattle.std.specs.Prelude.{ℕ, Bool, cond, ltb}
 use Rattle.roottable.specs.declared.Best.{Best}
 use Rattle.roottable.specs.declared.Best.TheVariants as best

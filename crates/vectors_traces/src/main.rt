@@ -3,7 +3,7 @@
 #![tactic(auto)]
 
 mod days;
-mod records;
+mod single;
 
 use line::Line;
 use report::State;
@@ -17,7 +17,7 @@ const NOW: u64 = 1880280000000000;
 const LATEST: u32 = 0xffff_ffff;
 
 fn main(rt: HostRuntime) -> io::Result<()> {
-    records::run(&rt)?;
+    single::run(&rt)?;
     days::run(&rt)
 }
 

@@ -1,5 +1,5 @@
 -- `bodies_of`: each body begins where the one before it ends.
-use Rattle.lemmas.proofs.Basics.{refl, rules}
+use Rattle.lemmas.proofs.Basics.{refl}
 use Rattle.envelope.specs.Layout.{bodies_of}
 use Rattle.envelope.proofs.bodies_of.Goals as goal
 

@@ -1,5 +1,5 @@
 -- `form_of`: the tests in the definition's order.
-use Rattle.lemmas.proofs.Basics.{sym, ◌∙◌, rules, eq-eqb, ne_eqb}
+use Rattle.lemmas.proofs.Basics.{sym, ◌∙◌, eq-eqb, ne_eqb}
 use Rattle.envelope.specs.Reading.{form_of}
 use Rattle.envelope.proofs.form_of.Goals as goal
 

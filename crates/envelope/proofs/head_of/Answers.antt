@@ -1,6 +1,5 @@
 -- `head_of`: field by field.
 use Rattle.envelope.specs.Layout.{head_of}
-use Rattle.lemmas.proofs.Basics.{rules}
 use Rattle.envelope.proofs.head_of.Goals as goal
 
 pub returns : goal.returns

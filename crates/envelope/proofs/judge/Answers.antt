@@ -1,5 +1,5 @@
 -- `judge`: the checks of the head, then those of the layout.
-use Rattle.lemmas.proofs.Basics.{sym, ◌∙◌, rules}
+use Rattle.lemmas.proofs.Basics.{sym, ◌∙◌}
 use Rattle.refusal.proofs.Chains.{stops, follows}
 use Rattle.envelope.specs.Reading.{head_checks, layout_checks, envelope_checks}
 use Rattle.envelope.proofs.judge.Goals as goal

@@ -1,5 +1,5 @@
 -- `judge_given`: the checks that can apply, one after the other.
-use Rattle.lemmas.proofs.Basics.{◌≤◌, ◌<◌, arith, sym, ◌∙◌, rules, lt-ltb, le-ltb}
+use Rattle.lemmas.proofs.Basics.{◌≤◌, ◌<◌, arith, sym, ◌∙◌, lt-ltb, le-ltb}
 use Rattle.refusal.specs.Chain.{first_of}
 use Rattle.refusal.proofs.Chains.{first_next, then_first}
 use Rattle.envelope.specs.Reading.{four_texts, body_checks}

@@ -1,5 +1,5 @@
 -- `judge_head`: the length, and the number at the mark's place.
-use Rattle.lemmas.proofs.Basics.{rules, lt-ltb, le-ltb, eq-eqb, ne_eqb}
+use Rattle.lemmas.proofs.Basics.{lt-ltb, le-ltb, eq-eqb, ne_eqb}
 use Rattle.refusal.specs.Chain.{first_of}
 use Rattle.wire.specs.Numbers.{le_of}
 use Rattle.envelope.specs.Reading.{head_checks}

@@ -1,5 +1,5 @@
 -- `judge_keys`: the key rule, of the flags' public bit.
-use Rattle.lemmas.proofs.Basics.{ap, ◌∙◌, rules}
+use Rattle.lemmas.proofs.Basics.{ap, ◌∙◌}
 use Rattle.refusal.specs.Chain.{first_of}
 use Rattle.keys.specs.KeyRule.{key_checks}
 use Rattle.envelope.proofs.judge_keys.Goals as goal

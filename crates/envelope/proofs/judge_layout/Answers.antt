@@ -1,5 +1,5 @@
 -- `judge_layout`: the indices and the lengths, then the texts and the keys.
-use Rattle.lemmas.proofs.Basics.{refl, sym, ◌∙◌, rules, ne_eqb}
+use Rattle.lemmas.proofs.Basics.{refl, sym, ◌∙◌, ne_eqb}
 use Rattle.refusal.specs.Chain.{first_of, unless_refused}
 use Rattle.envelope.specs.Reading.{layout_checks}
 use Rattle.envelope.proofs.Reading.{layout_judged}

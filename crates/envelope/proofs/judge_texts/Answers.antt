@@ -1,5 +1,5 @@
 -- `judge_texts`: the first text that is refused, or the last one's outcome.
-use Rattle.lemmas.proofs.Basics.{sym, ◌∙◌, rules}
+use Rattle.lemmas.proofs.Basics.{sym, ◌∙◌}
 use Rattle.refusal.specs.Chain.{unless_refused}
 use Rattle.refusal.proofs.Chains.{first_append}
 use Rattle.envelope.specs.Reading.{four_texts}

@@ -1,6 +1,5 @@
 -- `lengths_of`: field by field.
 use Rattle.envelope.specs.Layout.{lengths_of}
-use Rattle.lemmas.proofs.Basics.{rules}
 use Rattle.envelope.proofs.lengths_of.Goals as goal
 
 pub returns : goal.returns

@@ -1,8 +1,8 @@
 -- `put`: the head, then the bodies two by two, each pair into the part that it is lent.
-use Rattle.lemmas.proofs.Basics.{ℕ, ◌+◌, ◌≤◌, arith, [], refl, sym, ap, ◌∙◌, length, rules}
+use Rattle.lemmas.proofs.Basics.{ℕ, ◌+◌, ◌≤◌, arith, [], refl, sym, ap, ◌∙◌}
 use native.Mathlib.Nat.{zero-add}
 use Rattle.wire.specs.Parts.{onto, joined}
-use Rattle.wire.proofs.Writing.{lent, lent_pair, pair-room, onto-none, length-onto}
+use Rattle.wire.proofs.Writing.{lent, lent_pair, pair-room, onto-none}
 use Rattle.envelope.specs.Writing.{given, given_lengths, head_pieces}
 use Rattle.envelope.proofs.Writing.{bytes_are, length-head}
 use Rattle.envelope.proofs.put.Goals as goal

@@ -1,5 +1,4 @@
 -- `put_algorithm`: each body into the part that it is lent.
-use Rattle.lemmas.proofs.Basics.{rules}
 use Rattle.wire.proofs.Writing.{lent_two}
 use Rattle.envelope.proofs.put_algorithm.Goals as goal
 

@@ -1,5 +1,5 @@
 -- `put_head`: the numbers before the root identifier, that identifier, and the numbers behind it.
-use Rattle.lemmas.proofs.Basics.{arith, [], ◌++◌, refl, sym, ap, ◌∙◌, length-append, rules}
+use Rattle.lemmas.proofs.Basics.{arith, [], ◌++◌, refl, sym, ap, ◌∙◌, length-append}
 use Rattle.wire.specs.Parts.{onto, le32_bytes}
 use Rattle.wire.proofs.Writing.{lent, onto-none, length-le32_bytes}
 use Rattle.rootid.specs.Root.{root_bytes}

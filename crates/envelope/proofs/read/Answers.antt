@@ -1,5 +1,5 @@
 -- `read`: what the checks came to is told.
-use Rattle.lemmas.proofs.Basics.{refl, sym, ◌∙◌, rules}
+use Rattle.lemmas.proofs.Basics.{refl, sym, ◌∙◌}
 use Rattle.refusal.specs.Chain.{unless_refused}
 use Rattle.envelope.proofs.Reading.{envelope_judged}
 use Rattle.envelope.proofs.read.Goals as goal

@@ -1,5 +1,4 @@
 -- `seed_keys_of`: the keys of the form.
-use Rattle.lemmas.proofs.Basics.{sym, rules}
 use Rattle.envelope.proofs.Forms.{form_keys}
 use Rattle.envelope.proofs.seed_keys_of.Goals as goal
 

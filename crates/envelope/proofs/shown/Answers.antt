@@ -1,5 +1,4 @@
 -- `shown`: the head, and the bodies by the lengths.
-use Rattle.lemmas.proofs.Basics.{rules}
 use Rattle.envelope.specs.Reading.{shown}
 use Rattle.envelope.proofs.shown.Goals as goal
 

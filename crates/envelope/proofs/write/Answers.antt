@@ -1,5 +1,5 @@
 -- `write`: the judge's refusal, 13, or the envelope's length and the envelope put.
-use Rattle.lemmas.proofs.Basics.{◌≤◌, arith, refl, sym, ◌∙◌, rules}
+use Rattle.lemmas.proofs.Basics.{◌≤◌, arith, refl, sym, ◌∙◌}
 use Rattle.records.specs.Writing.{output_of}
 use Rattle.records.proofs.Laws.{refuses, lacks_room, writes}
 use Rattle.envelope.specs.Writing.{given, envelope_length}

@@ -1,5 +1,4 @@
 -- `accepted`: each piece is put behind those before it, and the numbers are those of the definition.
-use Rattle.lemmas.proofs.Basics.{rules}
 use Rattle.line.specs.Text.{laid}
 use Rattle.words.specs.Words.{identifier_words}
 use Rattle.envline.specs.Line.{envelope_words}

@@ -1,5 +1,4 @@
 -- `line_of`: the words and the newline fit.
-use Rattle.lemmas.proofs.Basics.{rules}
 use Rattle.envline.proofs.Lines.{ended}
 use Rattle.envline.proofs.line_of.Goals as goal
 

@@ -1,5 +1,5 @@
 -- `shown`: the reader's answer is told.
-use Rattle.lemmas.proofs.Basics.{sym, ◌∙◌, rules}
+use Rattle.lemmas.proofs.Basics.{sym, ◌∙◌}
 use Rattle.envline.specs.Line.{line_words}
 use Rattle.envline.proofs.shown.Goals as goal
 

@@ -1,6 +1,5 @@
 -- `form_code`: the case is told.
 use Rattle.face.specs.Codes.{form_code}
-use Rattle.lemmas.proofs.Basics.{rules}
 use Rattle.face.proofs.form_code.Goals as goal
 
 pub returns-in-Keyless : goal.returns-in-Keyless

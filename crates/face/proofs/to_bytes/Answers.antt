@@ -1,7 +1,6 @@
 -- `to_bytes`: sixteen bytes put over sixteen.
 use Rattle.wire.proofs.Writing.{onto-whole}
 use Rattle.rootid.proofs.Roots.{length-root_bytes}
-use Rattle.lemmas.proofs.Basics.{rules}
 use Rattle.face.proofs.to_bytes.Goals as goal
 
 pub returns : goal.returns

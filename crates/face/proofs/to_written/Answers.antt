@@ -1,7 +1,6 @@
 -- `to_written`: the answer is told.
 use Rattle.records.specs.Writing.{written_number, written_length}
 use Rattle.face.specs.Shapes.{written_answer}
-use Rattle.lemmas.proofs.Basics.{rules}
 use Rattle.face.proofs.to_written.Goals as goal
 
 pub returns-in-Length : goal.returns-in-Length

@@ -1,7 +1,6 @@
 -- `choice_answer`: the choice is told.
 use Rattle.serving.specs.Choice.{choice_number, choice_span}
 use Rattle.face_choices.specs.Choices.{choice_answer, which_code, chosen_key_code}
-use Rattle.lemmas.proofs.Basics.{rules}
 use Rattle.face_choices.proofs.choice_answer.Goals as goal
 
 pub returns-in-Fetched : goal.returns-in-Fetched

@@ -1,5 +1,4 @@
 -- `chosen_at`: what it calls ensures it.
-use Rattle.lemmas.proofs.Basics.{rules}
 use Rattle.face_choices.proofs.chosen_at.Goals as goal
 
 pub returns : goal.returns

@@ -1,6 +1,5 @@
 -- `key_code`: the case is told.
 use Rattle.face_choices.specs.Choices.{key_code}
-use Rattle.lemmas.proofs.Basics.{rules}
 use Rattle.face_choices.proofs.key_code.Goals as goal
 
 pub returns-in-L1 : goal.returns-in-L1

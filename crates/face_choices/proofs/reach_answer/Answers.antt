@@ -1,6 +1,5 @@
 -- `reach_answer`: what it calls ensures it.
 use Rattle.face_choices.specs.Choices.{reach_answer}
-use Rattle.lemmas.proofs.Basics.{rules}
 use Rattle.face_choices.proofs.reach_answer.Goals as goal
 
 pub returns : goal.returns

@@ -2,7 +2,6 @@
 use Rattle.getkey.specs.Deciding.{answer_number, answer_at, answer_form, answer_row}
 use Rattle.face.specs.Codes.{form_code}
 use Rattle.face_decisions.specs.Decisions.{grant_code, decision_answer}
-use Rattle.lemmas.proofs.Basics.{rules}
 use Rattle.face_decisions.proofs.decision_answer.Goals as goal
 
 pub returns-in-Granted : goal.returns-in-Granted

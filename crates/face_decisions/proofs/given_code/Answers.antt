@@ -1,5 +1,4 @@
 -- `given_code`: the case is told.
-use Rattle.lemmas.proofs.Basics.{rules}
 use Rattle.face_decisions.specs.Decisions.{given_code}
 use Rattle.face_decisions.proofs.given_code.Goals as goal
 

@@ -1,5 +1,4 @@
 -- `rights_code`: the case is told.
-use Rattle.lemmas.proofs.Basics.{rules}
 use Rattle.face_decisions.specs.Decisions.{rights_code}
 use Rattle.face_decisions.proofs.rights_code.Goals as goal
 

@@ -1,5 +1,4 @@
 -- `root_bytes`: the case is told.
-use Rattle.lemmas.proofs.Basics.{rules}
 use Rattle.face_decisions.specs.Decisions.{root_bytes_shown}
 use Rattle.face_decisions.proofs.root_bytes.Goals as goal
 

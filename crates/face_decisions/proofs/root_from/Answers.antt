@@ -1,6 +1,5 @@
 -- `root_from`: 0 names no root key.
 use Rattle.face.proofs.Tests.{tests}
-use Rattle.lemmas.proofs.Basics.{rules}
 use Rattle.face_decisions.proofs.root_from.Goals as goal
 
 pub returns-then-given-eq0 : goal.returns-then-given-eq0

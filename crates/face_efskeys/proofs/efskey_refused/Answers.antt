@@ -1,5 +1,4 @@
 -- `efskey_refused`: the number is the refusal's.
-use Rattle.lemmas.proofs.Basics.{rules}
 use Rattle.efskey.specs.Reading.{efs_key_number, sid_kind, span_of}
 use Rattle.face_efskeys.specs.EfsKeys.{efs_key_answer}
 use Rattle.face_efskeys.proofs.efskey_refused.Goals as goal

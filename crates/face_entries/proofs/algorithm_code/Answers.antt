@@ -1,6 +1,5 @@
 -- `algorithm_code`: the case is told.
 use Rattle.face_entries.specs.Entries.{algorithm_code}
-use Rattle.lemmas.proofs.Basics.{rules}
 use Rattle.face_entries.proofs.algorithm_code.Goals as goal
 
 pub returns-in-Rsa : goal.returns-in-Rsa

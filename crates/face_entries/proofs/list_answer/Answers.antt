@@ -1,7 +1,6 @@
 -- `list_answer`: the judge's answer is told.
 use Rattle.keylist.specs.Reading.{list_number, list_count, list_index}
 use Rattle.face_entries.specs.Lists.{list_answer}
-use Rattle.lemmas.proofs.Basics.{rules}
 use Rattle.face_entries.proofs.list_answer.Goals as goal
 
 pub returns-in-Count : goal.returns-in-Count

@@ -1,7 +1,6 @@
 -- `step_answer`: what was found is told.
 use Rattle.keylist.specs.Stepping.{step_number, step_index, step_found}
 use Rattle.face_entries.specs.Lists.{found_code, step_algorithm, step_answer}
-use Rattle.lemmas.proofs.Basics.{rules}
 use Rattle.face_entries.proofs.step_answer.Goals as goal
 
 pub returns-in-Entry : goal.returns-in-Entry

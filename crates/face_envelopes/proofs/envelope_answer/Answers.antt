@@ -1,7 +1,6 @@
 -- `envelope_answer`: what it calls ensures it.
 use Rattle.envelope.specs.Reading.{envelope_number, envelope_values}
 use Rattle.face_envelopes.specs.Envelopes.{envelope_answer}
-use Rattle.lemmas.proofs.Basics.{rules}
 use Rattle.face_envelopes.proofs.envelope_answer.Goals as goal
 
 pub returns : goal.returns

@@ -5,7 +5,6 @@ use Rattle.envelope.specs.Layout.{is_public}
 use Rattle.envelope.specs.Reading.{envelope_number, envelope_values, form_of}
 use Rattle.face.specs.Codes.{form_code}
 use Rattle.face_envelopes.specs.Envelopes.{envelope_answer}
-use Rattle.lemmas.proofs.Basics.{rules}
 use Rattle.face_envelopes.proofs.envelope_refused.Goals as goal
 
 pub returns : goal.returns

@@ -1,5 +1,4 @@
 -- `head_answer`: what it calls ensures it.
-use Rattle.lemmas.proofs.Basics.{rules}
 use Rattle.face_envelopes.proofs.head_answer.Goals as goal
 
 pub returns : goal.returns

@@ -1,5 +1,4 @@
 -- `head_from`: what it calls ensures it.
-use Rattle.lemmas.proofs.Basics.{rules}
 use Rattle.face_envelopes.proofs.head_from.Goals as goal
 
 pub returns : goal.returns

@@ -1,5 +1,4 @@
 -- `segment_refused`: the number is the refusal's.
-use Rattle.lemmas.proofs.Basics.{rules}
 use Rattle.segment.specs.Reading.{segment_number, segment_values}
 use Rattle.face_segments.specs.Segments.{segment_answer}
 use Rattle.face_segments.proofs.segment_refused.Goals as goal

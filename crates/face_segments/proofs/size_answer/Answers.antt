@@ -1,5 +1,4 @@
 -- `size_answer`: the reader's answer is told.
-use Rattle.lemmas.proofs.Basics.{rules}
 use Rattle.segment.specs.Reading.{size_number, size_found, size_value}
 use Rattle.face_segments.specs.Segments.{size_answer}
 use Rattle.face_segments.proofs.size_answer.Goals as goal

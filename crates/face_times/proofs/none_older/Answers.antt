@@ -1,7 +1,6 @@
 -- `none_older`: no identifier, number 0.
 use Rattle.gkid.specs.Older.{older_number, older_found, older_shown}
 use Rattle.face_times.specs.Times.{older_answer}
-use Rattle.lemmas.proofs.Basics.{rules}
 use Rattle.face_times.proofs.none_older.Goals as goal
 
 pub returns : goal.returns

@@ -1,7 +1,6 @@
 -- `older_refused`: no identifier, and the number.
 use Rattle.gkid.specs.Older.{older_number, older_found, older_shown}
 use Rattle.face_times.specs.Times.{older_answer}
-use Rattle.lemmas.proofs.Basics.{rules}
 use Rattle.face_times.proofs.older_refused.Goals as goal
 
 pub returns : goal.returns

@@ -1,5 +1,4 @@
 -- `present_answer`: what it calls ensures it.
-use Rattle.lemmas.proofs.Basics.{rules}
 use Rattle.face_times.proofs.present_answer.Goals as goal
 
 pub returns : goal.returns

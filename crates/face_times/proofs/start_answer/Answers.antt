@@ -1,7 +1,6 @@
 -- `start_answer`: the start is told.
 use Rattle.gkid.specs.Start.{start_number, start_shown}
 use Rattle.face_times.specs.Times.{start_answer}
-use Rattle.lemmas.proofs.Basics.{rules}
 use Rattle.face_times.proofs.start_answer.Goals as goal
 
 pub returns-in-At : goal.returns-in-At

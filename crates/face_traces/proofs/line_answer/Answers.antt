@@ -1,5 +1,4 @@
 -- `line_answer`: the step is told.
-use Rattle.lemmas.proofs.Basics.{rules}
 use Rattle.face_traces.specs.Replays.{line_answer}
 use Rattle.face_traces.proofs.line_answer.Goals as goal
 

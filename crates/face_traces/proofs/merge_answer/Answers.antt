@@ -1,5 +1,4 @@
 -- `merge_answer`: the answer is told.
-use Rattle.lemmas.proofs.Basics.{rules}
 use Rattle.face_traces.specs.Totals.{merge_answer}
 use Rattle.face_traces.proofs.merge_answer.Goals as goal
 

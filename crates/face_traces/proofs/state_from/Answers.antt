@@ -1,5 +1,4 @@
 -- `state_from`: the total is taken in.
-use Rattle.lemmas.proofs.Basics.{rules}
 use Rattle.face_traces.proofs.state_from.Goals as goal
 
 pub returns : goal.returns

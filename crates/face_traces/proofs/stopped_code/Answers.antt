@@ -1,5 +1,4 @@
 -- `stopped_code`: the case is told.
-use Rattle.lemmas.proofs.Basics.{rules}
 use Rattle.face_traces.specs.Replays.{stopped_code}
 use Rattle.face_traces.proofs.stopped_code.Goals as goal
 

@@ -1,5 +1,4 @@
 -- `tally_from`: the clocks as their code says.
-use Rattle.lemmas.proofs.Basics.{rules}
 use Rattle.face_traces.proofs.tally_from.Goals as goal
 
 pub returns : goal.returns

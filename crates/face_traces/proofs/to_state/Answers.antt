@@ -1,5 +1,4 @@
 -- `to_state`: the total is shown.
-use Rattle.lemmas.proofs.Basics.{rules}
 use Rattle.face_traces.proofs.to_state.Goals as goal
 
 pub returns : goal.returns

@@ -1,5 +1,4 @@
 -- `to_tally`: the clocks are told.
-use Rattle.lemmas.proofs.Basics.{rules}
 use Rattle.face_traces.specs.Totals.{clocks_code, first_clock, last_clock, tally_shown}
 use Rattle.face_traces.proofs.to_tally.Goals as goal
 

@@ -1,5 +1,4 @@
 -- `trace_answer`: what the record shows is laid out.
-use Rattle.lemmas.proofs.Basics.{rules}
 use Rattle.trace.specs.Reading.{record_number}
 use Rattle.face_traces.specs.Records.{record_values, trace_answer}
 use Rattle.face_traces.proofs.trace_answer.Goals as goal

@@ -1,5 +1,4 @@
 -- `trace_refused`: the number is the refusal's.
-use Rattle.lemmas.proofs.Basics.{rules}
 use Rattle.trace.specs.Reading.{record_number}
 use Rattle.face_decisions.specs.Decisions.{rights_code, given_code, root_bytes_shown}
 use Rattle.face_traces.specs.Records.{record_values, trace_answer}

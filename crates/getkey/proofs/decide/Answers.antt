@@ -1,5 +1,4 @@
 -- `decide`: by the checker's verdict.
-use Rattle.lemmas.proofs.Basics.{rules}
 use Rattle.getkey.specs.Deciding.{decision}
 use Rattle.getkey.proofs.decide.Goals as goal
 

@@ -1,5 +1,5 @@
 -- `decide_by_verdict`: the refusal of the checks, or what is granted.
-use Rattle.lemmas.proofs.Basics.{◌^◌, ◌<◌, arith, sym, ◌∙◌, length, rules}
+use Rattle.lemmas.proofs.Basics.{◌^◌, ◌<◌, arith, sym, ◌∙◌, length}
 use Rattle.gkid.specs.Conversion.{gkid_at}
 use Rattle.getkey.specs.Deciding.{granting}
 use Rattle.getkey.proofs.Decisions.{Passed, passed, begins, refused_decided, passed_granting}

@@ -1,6 +1,5 @@
 -- `grant`: the row chosen, or none.
 use Rattle.getkey.specs.Deciding.{with_row, granting}
-use Rattle.lemmas.proofs.Basics.{rules}
 use Rattle.getkey.proofs.grant.Goals as goal
 
 pub returns-in-Row : goal.returns-in-Row

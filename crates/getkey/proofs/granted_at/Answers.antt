@@ -1,6 +1,6 @@
 -- `granted_at`: by cases, and the one test.
 use Rattle.getkey.specs.Deciding.{granted_at}
-use Rattle.lemmas.proofs.Basics.{rules, lt-ltb, le-ltb}
+use Rattle.lemmas.proofs.Basics.{lt-ltb, le-ltb}
 use Rattle.getkey.proofs.granted_at.Goals as goal
 
 pub returns-in_default : goal.returns-in_default

@@ -1,5 +1,5 @@
 -- `judge`: one test after the other; the first that holds is the answer.
-use Rattle.lemmas.proofs.Basics.{sym, ap, ◌∙◌, rules}
+use Rattle.lemmas.proofs.Basics.{sym, ap, ◌∙◌}
 use Rattle.refusal.specs.Chain.{first_of}
 use Rattle.getkey.specs.Deciding.{rights_too_low, checks}
 use Rattle.getkey.proofs.judge.Goals as goal

@@ -1,6 +1,5 @@
 -- `row_wanted`: by cases.
 use Rattle.getkey.specs.Deciding.{wanted_of}
-use Rattle.lemmas.proofs.Basics.{rules}
 use Rattle.getkey.proofs.row_wanted.Goals as goal
 
 pub start_of-requires : goal.start_of-requires

@@ -1,5 +1,5 @@
 -- `start_of`: the start, which is not refused.
-use Rattle.lemmas.proofs.Basics.{ℕ, arith, ◌≡◌, sym, ◌∙◌, rules}
+use Rattle.lemmas.proofs.Basics.{ℕ, arith, ◌≡◌, sym, ◌∙◌}
 use Rattle.gkid.proofs.Times.{start_is}
 use Rattle.getkey.proofs.start_of.Goals as goal
 

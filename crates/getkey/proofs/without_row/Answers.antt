@@ -1,6 +1,5 @@
 -- `without_row`: by cases.
 use Rattle.getkey.specs.Deciding.{without_row}
-use Rattle.lemmas.proofs.Basics.{rules}
 use Rattle.getkey.proofs.without_row.Goals as goal
 
 pub returns-in-Latest : goal.returns-in-Latest

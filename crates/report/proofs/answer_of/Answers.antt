@@ -1,5 +1,4 @@
 -- `answer_of`: the record is told.
-use Rattle.lemmas.proofs.Basics.{rules}
 use Rattle.report.specs.Records.{answered}
 use Rattle.report.proofs.answer_of.Goals as goal
 

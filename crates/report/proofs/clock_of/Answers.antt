@@ -1,5 +1,4 @@
 -- `clock_of`: the record is told.
-use Rattle.lemmas.proofs.Basics.{rules}
 use Rattle.report.specs.Records.{clock_of}
 use Rattle.report.proofs.clock_of.Goals as goal
 

@@ -1,5 +1,5 @@
 -- `has_record`: the tests of the definition.
-use Rattle.lemmas.proofs.Basics.{refl, rules}
+use Rattle.lemmas.proofs.Basics.{refl}
 use Rattle.report.specs.Records.{has_record}
 use Rattle.report.proofs.has_record.Goals as goal
 

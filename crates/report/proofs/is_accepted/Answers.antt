@@ -1,5 +1,5 @@
 -- `is_accepted`: the answer is told, and no refusal has the number 0.
-use Rattle.lemmas.proofs.Basics.{sym, ne_eqb, rules}
+use Rattle.lemmas.proofs.Basics.{sym, ne_eqb}
 use Rattle.refusal.proofs.Numbers.{number_not-zero}
 use Rattle.getkey.specs.Deciding.{answer_number}
 use Rattle.report.proofs.is_accepted.Goals as goal

@@ -1,5 +1,4 @@
 -- `put_answer`: the answer is told.
-use Rattle.lemmas.proofs.Basics.{rules}
 use Rattle.line.specs.Text.{put_all}
 use Rattle.words.specs.Words.{identifier_words}
 use Rattle.report.specs.Lines.{answer_words}

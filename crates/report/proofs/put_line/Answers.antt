@@ -1,5 +1,5 @@
 -- `put_line`: each piece is put behind those before it.
-use Rattle.lemmas.proofs.Basics.{[], ◌∷◌, rules}
+use Rattle.lemmas.proofs.Basics.{[], ◌∷◌}
 use Rattle.line.specs.Text.{put_all, newline}
 use Rattle.line.proofs.Lines.{put-append}
 use Rattle.report.specs.Lines.{answer_words, line_words}

@@ -1,9 +1,9 @@
 -- `replay`: what is replayed so far and what is left give the whole; what is left grows shorter with each record.
-use Rattle.lemmas.proofs.Basics.{arith, sym, ap, ◌∙◌, length, length-drop, length-take-le, rules}
+use Rattle.lemmas.proofs.Basics.{arith, sym, ap, ◌∙◌, length-drop, length-take-le}
 use Rattle.report.specs.declared.Stopped.TheVariants.{Records, Room, Full}
 use Rattle.report.specs.Replaying.{step_of}
 use Rattle.report.proofs.Chunks.{has_any}
-use Rattle.report.proofs.Looping.{Replaying, first_cut, replaying_start, replaying_again, replaying_stop, length_out, left_within, no_record, no_room, no_count}
+use Rattle.report.proofs.Looping.{first_cut, replaying_start, replaying_again, replaying_stop, length_out, no_record, no_room, no_count}
 use Rattle.report.proofs.replay.Goals as goal
 
 pub loop-left-init : goal.loop-left-init

@@ -1,8 +1,5 @@
-use Rattle.lemmas.proofs.Basics.{arith, sym, ap, ◌∙◌, length, length-drop, length-take-le, rules}
-use Rattle.report.specs.declared.Stopped.TheVariants.{Records, Room, Full}
-use Rattle.report.specs.Replaying.{step_of}
-use Rattle.report.proofs.Chunks.{has_any}
-use Rattle.report.proofs.Looping.{Replaying, first_cut, replaying_start, replaying_again, replaying_stop, length_out, left_within, no_record, no_room, no_count}
+use Rattle.lemmas.proofs.Basics.{length}
+use Rattle.report.proofs.Looping.{Replaying}
 use Rattle.report.proofs.replay.Given as goal
 
 abbrev pub invariant-loop-left : goal.invariant-loop-left

@@ -1,5 +1,5 @@
 -- `step`: the record is answered and counted.
-use Rattle.lemmas.proofs.Basics.{arith, [], ◌∷◌, ◌≡◌, sym, ap, ◌∙◌, rules}
+use Rattle.lemmas.proofs.Basics.{arith, [], ◌∷◌, ◌≡◌, sym, ap, ◌∙◌}
 use Rattle.tally.specs.Merging.{merged_of}
 use Rattle.report.specs.Records.{answer_to, total_of}
 use Rattle.report.proofs.Stepping.{answer_is, one_is, steps, steps_not, last_number}

@@ -1,5 +1,4 @@
 -- `total_line`: each piece is put behind those before it, and they fit.
-use Rattle.lemmas.proofs.Basics.{rules}
 use Rattle.line.specs.Text.{laid}
 use Rattle.report.specs.Lines.{total_words}
 use Rattle.report.proofs.Lines.{total-laid}

@@ -1,5 +1,5 @@
 -- `is_outside`: either test, on the number that the bits stand for.
-use Rattle.lemmas.proofs.Basics.{ap, ◌∙◌, rules}
+use Rattle.lemmas.proofs.Basics.{ap, ◌∙◌}
 use mir.Facts.{to_z-of_z}
 use Rattle.request.specs.Indices.{below, outside}
 use Rattle.request.proofs.is_outside.Goals as goal

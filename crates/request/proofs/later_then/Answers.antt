@@ -1,5 +1,5 @@
 -- `later_then`: the tests are the definition's, on the numbers that the bits stand for.
-use Rattle.lemmas.proofs.Basics.{◌^◌, ◌≤◌, ◌<◌, arith, sym, ap₂, ◌∙◌, rules}
+use Rattle.lemmas.proofs.Basics.{◌^◌, ◌≤◌, ◌<◌, arith, sym, ap₂, ◌∙◌}
 use lib.Signed.{lt_z}
 use mir.Syntax.{w32}
 use mir.Facts.{to_z-of_z, to_z_pos}

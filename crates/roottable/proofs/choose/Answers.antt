@@ -1,8 +1,8 @@
 -- `choose`: 20; else the best of the rows passed.
-use Rattle.lemmas.proofs.Basics.{◌-◌, ◌≤◌, arith, add-one, ◌≡◌, sym, ap, ◌∙◌, rules}
+use Rattle.lemmas.proofs.Basics.{arith, add-one, ◌≡◌, sym, ap, ◌∙◌}
 use Rattle.roottable.specs.Rows.{row_count}
 use Rattle.roottable.specs.Selection.{chosen_row}
-use Rattle.roottable.proofs.Choice.{BestSays, place, step_says, suits, ranks, best_row, row_shows}
+use Rattle.roottable.proofs.Choice.{place, step_says, suits, ranks, best_row, row_shows}
 use Rattle.roottable.proofs.choose.Goals as goal
 
 pub returns-then-is_table_wrong : goal.returns-then-is_table_wrong

@@ -1,7 +1,5 @@
-use Rattle.lemmas.proofs.Basics.{◌-◌, ◌≤◌, arith, add-one, ◌≡◌, sym, ap, ◌∙◌, rules}
-use Rattle.roottable.specs.Rows.{row_count}
-use Rattle.roottable.specs.Selection.{chosen_row}
-use Rattle.roottable.proofs.Choice.{BestSays, place, step_says, suits, ranks, best_row, row_shows}
+use Rattle.lemmas.proofs.Basics.{◌-◌, ◌≤◌}
+use Rattle.roottable.proofs.Choice.{BestSays, suits, ranks}
 use Rattle.roottable.proofs.choose.Given as goal
 
 abbrev pub invariant-loop-k : goal.invariant-loop-k

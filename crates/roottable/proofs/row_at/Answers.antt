@@ -1,5 +1,5 @@
 -- `row_at`: each field from its place in the row's own bytes.
-use Rattle.lemmas.proofs.Basics.{◌+◌, ◌*◌, ◌≤◌, arith, length, rules}
+use Rattle.lemmas.proofs.Basics.{◌+◌, ◌*◌, ◌≤◌, arith, length}
 use Rattle.roottable.specs.Rows.{row_size}
 use Rattle.roottable.proofs.Rows.{row_in, row_in_lem}
 use Rattle.roottable.proofs.row_at.Goals as goal

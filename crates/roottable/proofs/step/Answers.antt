@@ -1,6 +1,5 @@
 -- `step`: the row, where it counts.
 use Rattle.roottable.specs.Passing.{step_of}
-use Rattle.lemmas.proofs.Basics.{rules}
 use Rattle.roottable.proofs.step.Goals as goal
 
 pub returns-then-suits : goal.returns-then-suits

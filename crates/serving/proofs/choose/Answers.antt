@@ -1,5 +1,5 @@
 -- `choose`: the cached one is asked first, and the fetched one only where it does not serve.
-use Rattle.lemmas.proofs.Basics.{sym, ◌∙◌, rules}
+use Rattle.lemmas.proofs.Basics.{sym, ◌∙◌}
 use Rattle.serving.specs.Choice.{prefer}
 use Rattle.serving.proofs.choose.Goals as goal
 

@@ -1,5 +1,5 @@
 -- `envelope_reach`: the reader's answer is told.
-use Rattle.lemmas.proofs.Basics.{sym, ap, ◌∙◌, rules}
+use Rattle.lemmas.proofs.Basics.{sym, ap, ◌∙◌}
 use Rattle.reach.specs.Reaches.{keys_reach}
 use Rattle.serving.specs.Reach.{reach_of}
 use Rattle.serving.proofs.envelope_reach.Goals as goal

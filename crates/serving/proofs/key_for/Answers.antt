@@ -1,5 +1,5 @@
 -- `key_for`: the L2 key, else the L1 key, else none.
-use Rattle.lemmas.proofs.Basics.{sym, rules}
+use Rattle.lemmas.proofs.Basics.{sym}
 use Rattle.serving.specs.Choice.{key_for}
 use Rattle.serving.proofs.key_for.Goals as goal
 

@@ -1,5 +1,5 @@
 -- `served_by`: the reader's answer is told, then the root is compared.
-use Rattle.lemmas.proofs.Basics.{sym, ◌∙◌, rules}
+use Rattle.lemmas.proofs.Basics.{sym, ◌∙◌}
 use Rattle.serving.specs.Choice.{served_by}
 use Rattle.serving.proofs.served_by.Goals as goal
 

@@ -1,5 +1,5 @@
 -- `serving_key`: the choice is told, and its part is handed out of the envelope that it names.
-use Rattle.lemmas.proofs.Basics.{arith, refl, sym, ◌∙◌, rules}
+use Rattle.lemmas.proofs.Basics.{arith, refl, sym, ◌∙◌}
 use Rattle.serving.specs.Choice.{chosen_part, chosen_block, chosen_start}
 use Rattle.serving.proofs.serving_key.Goals as goal
 

@@ -1,5 +1,4 @@
 -- `ends_of`: the clock is told.
-use Rattle.lemmas.proofs.Basics.{rules}
 use Rattle.tally.specs.Totals.{with_clock, ends_of, last_behind}
 use Rattle.tally.proofs.ends_of.Goals as goal
 

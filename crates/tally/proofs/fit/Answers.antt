@@ -1,5 +1,5 @@
 -- `fit`: by subtractions that stay in range.
-use Rattle.lemmas.proofs.Basics.{◌+◌, arith, sym, le-ltb, rules}
+use Rattle.lemmas.proofs.Basics.{◌+◌, arith, sym, le-ltb}
 use Rattle.tally.proofs.Laws.{sum_fits}
 use Rattle.tally.proofs.fit.Goals as goal
 

@@ -1,5 +1,4 @@
 -- `join`: the clocks are told.
-use Rattle.lemmas.proofs.Basics.{rules}
 use Rattle.tally.specs.Merging.{joined_ends}
 use Rattle.tally.proofs.join.Goals as goal
 

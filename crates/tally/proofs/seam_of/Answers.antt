@@ -1,5 +1,5 @@
 -- `seam_of`: the clocks are told, and compared.
-use Rattle.lemmas.proofs.Basics.{lt-ltb, le-ltb, rules}
+use Rattle.lemmas.proofs.Basics.{lt-ltb, le-ltb}
 use Rattle.lemmas.specs.Counting.{bit}
 use Rattle.tally.specs.Merging.{seam}
 use Rattle.tally.proofs.seam_of.Goals as goal

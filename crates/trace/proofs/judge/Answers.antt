@@ -1,5 +1,5 @@
 -- `judge`: one check after the other, on byte 8 and the identifier.
-use Rattle.lemmas.proofs.Basics.{ℕ, ◌/◌, ◌%◌, ◌≤◌, ◌<◌, arith, List, ◌≡◌, sym, ◌∙◌, length, get_or, rules, lt-ltb, le-ltb, eq-eqb, ne_eqb}
+use Rattle.lemmas.proofs.Basics.{◌/◌, ◌%◌, ◌≤◌, ◌<◌, arith, ◌≡◌, sym, ◌∙◌, length, get_or, lt-ltb, le-ltb, eq-eqb, ne_eqb}
 use Rattle.refusal.specs.Chain.{first_of}
 use Rattle.wire.proofs.Numbers.{Bytes, bytes_each}
 use Rattle.trace.specs.Reading.{record_checks}

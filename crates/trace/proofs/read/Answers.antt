@@ -1,5 +1,5 @@
 -- `read`: what the checks came to is told.
-use Rattle.lemmas.proofs.Basics.{refl, sym, ◌∙◌, rules}
+use Rattle.lemmas.proofs.Basics.{refl, sym, ◌∙◌}
 use Rattle.refusal.specs.Chain.{unless_refused}
 use Rattle.trace.proofs.Reading.{record_judged, accepted-whole}
 use Rattle.trace.proofs.read.Goals as goal

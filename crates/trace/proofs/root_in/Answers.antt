@@ -1,5 +1,5 @@
 -- `root_in`: the 16 bytes from 21 on are the identifier's bits.
-use Rattle.lemmas.proofs.Basics.{rules, eq-eqb, ne_eqb}
+use Rattle.lemmas.proofs.Basics.{eq-eqb, ne_eqb}
 use Rattle.wire.proofs.Numbers.{bytes_each}
 use Rattle.trace.proofs.Fields.{root_is}
 use Rattle.trace.proofs.root_in.Goals as goal

@@ -1,5 +1,5 @@
 -- `shown`: each field is read at its place.
-use Rattle.lemmas.proofs.Basics.{sym, ap, ◌∙◌, eqb, rules}
+use Rattle.lemmas.proofs.Basics.{sym, ap, ◌∙◌, eqb}
 use Rattle.wire.proofs.Numbers.{bytes_each}
 use Rattle.trace.specs.Layout.{root_field}
 use Rattle.trace.specs.Reading.{rights_of, root_of, shown}

@@ -1,5 +1,4 @@
 -- `put_form`: the form is told.
-use Rattle.lemmas.proofs.Basics.{rules}
 use Rattle.words.specs.Words.{form_word}
 use Rattle.words.proofs.put_form.Goals as goal
 

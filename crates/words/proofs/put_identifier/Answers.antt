@@ -1,5 +1,4 @@
 -- `put_identifier`: each piece is put behind those before it.
-use Rattle.lemmas.proofs.Basics.{rules}
 use Rattle.line.specs.Text.{put_all}
 use Rattle.words.specs.Words.{identifier_words}
 use Rattle.words.proofs.put_identifier.Goals as goal

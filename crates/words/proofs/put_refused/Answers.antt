@@ -1,5 +1,4 @@
 -- `put_refused`: each piece is put behind those before it.
-use Rattle.lemmas.proofs.Basics.{rules}
 use Rattle.line.specs.Text.{put_all}
 use Rattle.words.specs.Words.{refused_words}
 use Rattle.words.proofs.put_refused.Goals as goal

@@ -1,5 +1,4 @@
 -- `span`: each piece is put behind those before it.
-use Rattle.lemmas.proofs.Basics.{rules}
 use Rattle.line.specs.Text.{laid}
 use Rattle.words.specs.Words.{span_words}
 use Rattle.words.proofs.span.Goals as goal

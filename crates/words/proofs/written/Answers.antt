@@ -1,5 +1,4 @@
 -- `written`: the answer is told.
-use Rattle.lemmas.proofs.Basics.{rules}
 use Rattle.line.specs.Text.{laid}
 use Rattle.words.specs.Words.{written_words}
 use Rattle.words.proofs.written.Goals as goal

@@ -1,4 +1,4 @@
--- `Finding::number`: each variant is told, and `findingNumber` computes at it.
+-- `Finding::number`: each variant is told, and `finding_number` computes at it.
 use Rattle.descriptor.specs.Checking.{finding_number}
 use Rattle.descriptor.proofs.Finding.number.Goals as goal
 

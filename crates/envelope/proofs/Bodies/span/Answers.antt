@@ -1,5 +1,4 @@
 -- `Bodies::span`: the body asked for is told.
-use Rattle.lemmas.proofs.Basics.{rules}
 use Rattle.envelope.specs.Layout.{body_span}
 use Rattle.envelope.proofs.Bodies.span.Goals as goal
 

@@ -1,5 +1,4 @@
 -- `EnvelopeRead::span`: the answer is told; a refusal has no place.
-use Rattle.lemmas.proofs.Basics.{rules}
 use Rattle.envelope.specs.Reading.{span_of}
 use Rattle.envelope.proofs.EnvelopeRead.span.Goals as goal
 

@@ -1,5 +1,4 @@
 -- `gw_choose`: what it calls ensures it.
-use Rattle.lemmas.proofs.Basics.{rules}
 use Rattle.gishwarem.proofs.choices.gw_choose.Goals as goal
 
 pub returns : goal.returns

@@ -1,5 +1,4 @@
 -- `gw_envelope_reach`: what it calls ensures it.
-use Rattle.lemmas.proofs.Basics.{rules}
 use Rattle.gishwarem.proofs.choices.gw_envelope_reach.Goals as goal
 
 pub returns : goal.returns

@@ -1,5 +1,4 @@
 -- `gw_form_reach`: what it calls ensures it.
-use Rattle.lemmas.proofs.Basics.{rules}
 use Rattle.gishwarem.proofs.choices.gw_form_reach.Goals as goal
 
 pub returns : goal.returns

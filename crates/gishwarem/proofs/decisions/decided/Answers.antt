@@ -1,5 +1,4 @@
 -- `decided`: what it calls ensures it.
-use Rattle.lemmas.proofs.Basics.{rules}
 use Rattle.gishwarem.proofs.decisions.decided.Goals as goal
 
 pub returns : goal.returns

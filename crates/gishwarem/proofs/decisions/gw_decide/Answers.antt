@@ -1,5 +1,4 @@
 -- `gw_decide`: by the checker's verdict.
-use Rattle.lemmas.proofs.Basics.{rules}
 use Rattle.getkey.specs.Deciding.{decision}
 use Rattle.gishwarem.proofs.decisions.gw_decide.Goals as goal
 

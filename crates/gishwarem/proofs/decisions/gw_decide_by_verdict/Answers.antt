@@ -1,5 +1,4 @@
 -- `gw_decide_by_verdict`: what it calls ensures it.
-use Rattle.lemmas.proofs.Basics.{rules}
 use Rattle.gishwarem.proofs.decisions.gw_decide_by_verdict.Goals as goal
 
 pub returns : goal.returns

@@ -1,5 +1,4 @@
 -- `gw_descriptor_check`: what it calls ensures it.
-use Rattle.lemmas.proofs.Basics.{rules}
 use Rattle.gishwarem.proofs.decisions.gw_descriptor_check.Goals as goal
 
 pub returns : goal.returns

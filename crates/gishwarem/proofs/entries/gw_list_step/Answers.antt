@@ -1,5 +1,4 @@
 -- `gw_list_step`: what it calls ensures it.
-use Rattle.lemmas.proofs.Basics.{rules}
 use Rattle.gishwarem.proofs.entries.gw_list_step.Goals as goal
 
 pub returns : goal.returns

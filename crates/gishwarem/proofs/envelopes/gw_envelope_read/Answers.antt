@@ -1,5 +1,4 @@
 -- `gw_envelope_read`: what the head's checks or the reader told is laid out.
-use Rattle.lemmas.proofs.Basics.{rules}
 use Rattle.envelope.proofs.Reading.{head_refused}
 use Rattle.gishwarem.proofs.envelopes.gw_envelope_read.Goals as goal
 

@@ -1,5 +1,4 @@
 -- `gw_segment_read`: the reader's answer is told, and each way is laid out.
-use Rattle.lemmas.proofs.Basics.{rules}
 use Rattle.gishwarem.proofs.segments.gw_segment_read.Goals as goal
 
 pub returns-in-Accepted : goal.returns-in-Accepted

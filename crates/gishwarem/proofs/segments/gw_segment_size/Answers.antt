@@ -1,5 +1,4 @@
 -- `gw_segment_size`: what it calls ensures it.
-use Rattle.lemmas.proofs.Basics.{rules}
 use Rattle.gishwarem.proofs.segments.gw_segment_size.Goals as goal
 
 pub returns : goal.returns

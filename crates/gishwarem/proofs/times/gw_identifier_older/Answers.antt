@@ -1,7 +1,6 @@
 -- `gw_identifier_older`: the older one is told, and each way is laid out.
 use Rattle.gkid.specs.Older.{older_number, older_found, older_shown}
 use Rattle.face_times.specs.Times.{older_answer}
-use Rattle.lemmas.proofs.Basics.{rules}
 use Rattle.gishwarem.proofs.times.gw_identifier_older.Goals as goal
 
 pub returns-in-Is : goal.returns-in-Is

@@ -1,5 +1,4 @@
 -- `gw_identifier_start`: what it calls ensures it.
-use Rattle.lemmas.proofs.Basics.{rules}
 use Rattle.gishwarem.proofs.times.gw_identifier_start.Goals as goal
 
 pub returns : goal.returns

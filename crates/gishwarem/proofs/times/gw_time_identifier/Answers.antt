@@ -1,5 +1,4 @@
 -- `gw_time_identifier`: what it calls ensures it.
-use Rattle.lemmas.proofs.Basics.{rules}
 use Rattle.gishwarem.proofs.times.gw_time_identifier.Goals as goal
 
 pub returns : goal.returns

@@ -1,5 +1,4 @@
 -- `gw_replay`: what the replay ensures, from the state handed in.
-use Rattle.lemmas.proofs.Basics.{rules}
 use Rattle.gishwarem.proofs.traces.gw_replay.Goals as goal
 
 pub returns : goal.returns

@@ -1,5 +1,4 @@
 -- `gw_replay_step`: what it calls ensures it.
-use Rattle.lemmas.proofs.Basics.{rules}
 use Rattle.gishwarem.proofs.traces.gw_replay_step.Goals as goal
 
 pub returns : goal.returns

@@ -1,5 +1,4 @@
 -- `gw_tally_merge`: what it calls ensures it.
-use Rattle.lemmas.proofs.Basics.{rules}
 use Rattle.gishwarem.proofs.traces.gw_tally_merge.Goals as goal
 
 pub returns : goal.returns

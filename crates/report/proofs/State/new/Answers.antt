@@ -1,5 +1,4 @@
 -- `State::new`: the total of no record.
-use Rattle.lemmas.proofs.Basics.{rules}
 use Rattle.report.specs.Replaying.{start}
 use Rattle.report.proofs.State.new.Goals as goal
 

@@ -1,5 +1,5 @@
 -- `Best::or_better`: by cases, and the one test.
-use Rattle.lemmas.proofs.Basics.{rules, lt-ltb, le-ltb}
+use Rattle.lemmas.proofs.Basics.{lt-ltb, le-ltb}
 use Rattle.roottable.specs.Passing.{better}
 use Rattle.roottable.proofs.Best.or_better.Goals as goal
 

@@ -1,6 +1,5 @@
 -- `Wanted::suits`: by cases.
 use Rattle.roottable.specs.Rows.{suitable}
-use Rattle.lemmas.proofs.Basics.{rules}
 use Rattle.roottable.proofs.Wanted.suits.Goals as goal
 
 pub returns-in-Root : goal.returns-in-Root

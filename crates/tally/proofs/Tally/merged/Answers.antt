@@ -1,7 +1,7 @@
 -- `Tally::merged`: where each sum fits, the sums; else none.
-use Rattle.lemmas.proofs.Basics.{◌^◌, ◌<◌, arith, ◌≡◌, ◌&&◌, sym, ◌∙◌, rules}
+use Rattle.lemmas.proofs.Basics.{◌≡◌, ◌&&◌, sym, ◌∙◌}
 use Rattle.tally.specs.Merging.{merge, fits, merged_of}
-use Rattle.tally.proofs.Laws.{sums_fit, fits_told}
+use Rattle.tally.proofs.Laws.{sums_fit}
 use Rattle.tally.proofs.Tally.merged.Goals as goal
 
 pub returns-then-fit : goal.returns-then-fit

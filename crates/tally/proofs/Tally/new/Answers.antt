@@ -1,5 +1,5 @@
 -- `Tally::new`: the definition computes.
-use Rattle.lemmas.proofs.Basics.{refl, rules}
+use Rattle.lemmas.proofs.Basics.{refl}
 use Rattle.tally.specs.Totals.{accepted_in, refused_in, clocks_in, earlier_in, ends_of, tally_of}
 use Rattle.tally.proofs.Tally.new.Goals as goal
 

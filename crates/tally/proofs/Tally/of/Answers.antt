@@ -1,5 +1,4 @@
 -- `Tally::of`: accepted or refused, and the clock as the ends.
-use Rattle.lemmas.proofs.Basics.{rules}
 use Rattle.lemmas.specs.Counting.{bit}
 use Rattle.tally.specs.Totals.{accepted_in, refused_in, clocks_in, tally_of}
 use Rattle.tally.proofs.Laws.{one_earlier}
