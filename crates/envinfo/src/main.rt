@@ -5,7 +5,6 @@
 
 ghost use Rattle.std.specs.Prelude.{◌≡◌, OnOk, IfSome, OnErr, Err};
 ghost use Rattle.std.specs.Io.KnownBytes.{Keeps, Appends};
-ghost use Rattle.envinfo.specs.declared.Failure.TheVariants as failure;
 ghost use Rattle.envelope.specs.Reading.{envelope_of};
 ghost use Rattle.line.specs.Text.{text_of};
 ghost use Rattle.envline.specs.Line.{line_of};

@@ -6,12 +6,10 @@
 
 ghost use Rattle.std.specs.Prelude.{◌≡◌, ◌≢◌, ℕ, ◌≤◌, length, take, IfSome, IfOk, IfErr, OnOk, OnErr, Err};
 ghost use Rattle.std.specs.Io.KnownBytes.{Appends};
-ghost use Rattle.line.specs.Text.{text_of};
 ghost use Rattle.report.specs.Records.{records_of};
 ghost use Rattle.report.specs.Lines.{lines_from, total_line};
 ghost use Rattle.report.specs.Replaying.{after, report_of};
 ghost use Rattle.replay.specs.Cut.{OnlyLines};
-ghost use Rattle.replay.specs.declared.Failure.TheVariants as failure;
 
 use input::Input;
 use line::ROOM;
