@@ -3,7 +3,7 @@
 # bench: the library against the reference, by time. count: the same by instructions. bench-replay: the program against the same in plain Rust.
 # soak: the library and the reference on random inputs until stopped.
 # vectors: the papers' bench cases.
-.PHONY: run test lib bench count bench-replay soak vectors host doc fmt
+.PHONY: run test lib bench count bench-replay soak vectors host host-trace doc fmt
 
 CARGO = cargo --offline --quiet
 # What bench and count are compiled by: `measured` has the reference compiled as one whole, `release` crate by crate.
@@ -47,8 +47,11 @@ vectors:
 	@scripts/prove $(VECTORS)
 	@for program in $(VECTORS); do input=crates/$$program/stdin; test -f $$input || input=/dev/null; crates/$$program/out/$$program < $$input; done
 
-# The example host on its kept files.
+# The example host on its kept files; and with the trace as well.
 host: build/host
+	@cd examples/data && ../../build/host envelope descriptor table cached fetched
+
+host-trace: build/host
 	@cd examples/data && ../../build/host envelope descriptor table cached fetched trace
 
 build/host: examples/host.c include/gishwarem.h build/libgishwarem.a

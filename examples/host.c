@@ -1,10 +1,11 @@
-/* host: a small program that asks Gishwarem five things and prints the answers.
+/* host: a small program that asks Gishwarem four things, and a fifth where it is given a trace, and prints the answers.
  *
  *     cc -std=c99 -I include examples/host.c build/libgishwarem.a -o host
- *     cd examples/data && ../../host envelope descriptor table cached fetched trace
+ *     cd examples/data && ../../host envelope descriptor table cached fetched [trace]
  *
  * It shows an envelope, checks a security descriptor, asks for group keys with it, chooses between two envelopes, and replays
- * recorded requests. What it prints for the files kept in examples/data is in examples/host.stdout. */
+ * recorded requests. What it prints for the files kept in examples/data is in examples/host.stdout, and with the trace in
+ * examples/host-trace.stdout. */
 #include <inttypes.h>
 #include <stdio.h>
 #include <stdlib.h>
@@ -221,8 +222,8 @@ int main(int argc, char **argv)
         fprintf(stderr, "host: the library is of another version than its header\n");
         return 1;
     }
-    if (argc != 7) {
-        fprintf(stderr, "usage: host ENVELOPE DESCRIPTOR TABLE CACHED FETCHED TRACE\n");
+    if (argc != 6 && argc != 7) {
+        fprintf(stderr, "usage: host ENVELOPE DESCRIPTOR TABLE CACHED FETCHED [TRACE]\n");
         return 1;
     }
     read_file(argv[1], &envelope);
@@ -230,7 +231,8 @@ int main(int argc, char **argv)
     read_file(argv[3], &table);
     read_file(argv[4], &cached);
     read_file(argv[5], &fetched);
-    read_file(argv[6], &trace);
+    if (argc == 7)
+        read_file(argv[6], &trace);
 
     shown = show_envelope(&envelope);
     printf("descriptor: %s\n", descriptor_word(gw_descriptor_check(descriptor.data, descriptor.len)));
@@ -239,6 +241,7 @@ int main(int argc, char **argv)
     ask(&descriptor, &table, 5, 3, 8);
     if (shown.refusal == GW_ACCEPTED && latest.refusal == GW_ACCEPTED)
         choose(shown.head.root, latest.at, &cached, &fetched);
-    replay(&trace, &table);
+    if (argc == 7)
+        replay(&trace, &table);
     return 0;
 }

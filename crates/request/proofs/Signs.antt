@@ -36,7 +36,7 @@ unfolding natural
 negative (pos n) e = absurd (true≢false (sym (leb-zero n) ∙ e))
 negative (negsuc n) e = refl
 
--- every signed number is below one that rules the sign's bit
+-- every signed number is below one that needs the sign's bit
 pub past_signed : (z : ℤ) (n : ℕ) → SFits w32 z → 2 ^ 31 ≤ n → (lt_z (pos n) z ≡ false) × (lt_z z (pos n) ≡ true)
 past_signed (pos m) n h l = (le-ltb n m (omega (arith, h.sfits)), lt-ltb m n (omega (arith, h.sfits)))
 past_signed (negsuc m) n h l = (refl, refl)

@@ -116,6 +116,7 @@ impl Refusal {
     /// use gishwarem::Refusal;
     ///
     /// assert_eq!(Refusal::TooLong.number(), 1);
+    /// assert_eq!(Refusal::WrongShifts.number(), 25);
     /// assert_eq!(Refusal::MalformedRecord.number(), 26);
     /// ```
     pub fn number(self) -> u32 {
