@@ -1,7 +1,7 @@
 -- An EfsKey is accepted exactly when it is well formed, as MS-GPEF 2.2.1.2.2 states it, narrowed by document 01.
 use Rattle.lemmas.proofs.Basics.{ℕ, arith, Bool, true, false, cond, not, ◌&&◌, List, ◌⊎◌, inl, inr, ⊎_elim, ◌≡◌, refl, sym, ◌∙◌, eqb, length, le-ltb, ltb-false, eq-eqb, ne_eqb, eqb-true, eqb-false}
+use Rattle.std.specs.Prelude.{Ok}
 use Rattle.lemmas.proofs.Cases.{by_cases, not-false}
-use Rattle.refusal.specs.declared.Outcome.TheVariants as outcome
 use Rattle.refusal.specs.Chain.{first_of, unless_refused}
 use Rattle.wire.specs.Numbers.{le_of}
 use Rattle.wire.specs.Parts.{le_at}
@@ -10,7 +10,6 @@ use Rattle.wire.proofs.Numbers.{le_small}
 use Rattle.sid.proofs.ExactlyWhen.{sid_well_formed, well_formed_sid}
 use Rattle.efskey.specs.declared.SidHint.{SidHint}
 use Rattle.efskey.specs.declared.SidHint.TheVariants.{None, Sid, NoHint}
-use Rattle.efskey.specs.declared.EfsKeyRead.TheVariants.{Accepted}
 use Rattle.efskey.specs.Layout.{sid_offset, certificate_length, certificate_offset, sid_misplaced, gap_without_sid, sid_area, is_no_hint, area_span, hint_of, sid_malformed, hint_in}
 use Rattle.efskey.specs.Reading.{efs_key_checks, shown_with, efs_key_of, efs_key_number}
 use Rattle.efskey.specs.WellFormed.{WellFormed, SidField, absent, no_hint, present}
@@ -54,7 +53,7 @@ field_sid s (no_hint some one zeros) = rw (field_shown s (no_hint some one zeros
 field_sid s (present some sound) = rw (field_shown s (present some sound), some, well_formed_sid _ sound) (refl, refl, refl)
 
 -- Accepted, so well formed.
-pub checks_well_formed : (s : List ℕ) → first_of (efs_key_checks s) ≡ outcome.Accepted → WellFormed s
+pub checks_well_formed : (s : List ℕ) → first_of (efs_key_checks s) ≡ Ok tt → WellFormed s
 unfolding le_at
 checks_well_formed s e =
     let p = passed s e in
@@ -94,6 +93,6 @@ well_formed_accepted s w =
     }))
 
 -- An accepted record shows what its field is, so that it is one of the three alone.
-pub accepted_shows : (s : List ℕ) → efs_key_number (efs_key_of s) ≡ 0 → (field : SidField s) → efs_key_of s ≡ Accepted (shown_with s (field_hint s field))
+pub accepted_shows : (s : List ℕ) → efs_key_number (efs_key_of s) ≡ 0 → (field : SidField s) → efs_key_of s ≡ Ok (shown_with s (field_hint s field))
 unfolding efs_key_of unless_refused
 accepted_shows s z field = rw (accepted-checks s z, field_shown s field)

@@ -1,11 +1,11 @@
 -- Laws of the SID area: zero bytes, one at least, give no hint; a SID does; and where what the area holds stands.
 use Rattle.lemmas.proofs.Basics.{ℕ, ◌≤◌, arith, Bool, true, false, cond, List, ◌≡◌, refl, leb, eqb, length, le-leb, leb-true, eq-eqb, eqb-true}
+use Rattle.std.specs.Prelude.{Option, Some}
+use Rattle.efskey.specs.declared.SidHint.{SidHint}
 use Rattle.lemmas.proofs.Cases.{by_cases, cond_cases, both_true}
 use Rattle.lemmas.proofs.Counting.{every_all, all_every}
 use Rattle.sid.specs.WellFormed as sid
 use Rattle.efskey.specs.declared.SidHint.TheVariants.{None, Sid, NoHint}
-use Rattle.efskey.specs.declared.SidArea.{SidArea}
-use Rattle.efskey.specs.declared.SidArea.TheVariants.{Holds, Malformed}
 use Rattle.efskey.specs.Layout.{all_zeros, is_no_hint, area_span, hint_of, sid_malformed, area_of}
 use Rattle.efskey.specs.Reading.{hint_span}
 use Rattle.efskey.specs.WellFormed.{Zeros}
@@ -34,9 +34,9 @@ hint_span_lem offset area = told (eqb offset 0) (is_no_hint area)
     told false false = refl
 
 -- what an answer says of the area: what it holds passes the check and is the hint; what is malformed does not pass
-abbrev pub Says : ℕ → List ℕ → SidArea → Type 0
-Says offset area (Holds hint) = (sid_malformed (hint_of offset area) area ≡ false) × (hint ≡ hint_of offset area)
-Says offset area Malformed = sid_malformed (hint_of offset area) area ≡ true
+abbrev pub Says : ℕ → List ℕ → Option SidHint → Type 0
+Says offset area (Some hint) = (sid_malformed (hint_of offset area) area ≡ false) × (hint ≡ hint_of offset area)
+Says offset area None = sid_malformed (hint_of offset area) area ≡ true
 
 pub area_says : (offset : ℕ) (area : List ℕ) → Says offset area (area_of offset area)
 unfolding area_of

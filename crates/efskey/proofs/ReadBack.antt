@@ -1,7 +1,7 @@
 -- What the writer accepted reads back as given, a refusal of the writer is the reader's, and writing what was read gives the
 -- same bytes but for Reserved2.
 use Rattle.lemmas.proofs.Basics.{ℕ, ◌+◌, ◌-◌, ◌≤◌, arith, cond, List, [], ◌∷◌, ◌++◌, ◌≡◌, sym, ap, ap₂, ◌∙◌, eqb, length, take, drop, replicate, length-drop, take_all, le-ltb, ne_eqb}
-use Rattle.refusal.specs.declared.Outcome.TheVariants as outcome
+use Rattle.std.specs.Prelude.{Ok, Err}
 use Rattle.refusal.specs.declared.Refusal.{Refusal}
 use Rattle.refusal.specs.Chain.{first_of, unless_refused}
 use Rattle.refusal.proofs.Chains.{pass_accepted}
@@ -10,10 +10,8 @@ use Rattle.wire.specs.declared.Span.{Span}
 use Rattle.wire.specs.Parts.{part_of, le_at, joined}
 use Rattle.wire.proofs.Parts.{part_in, part_empty, length_part, joined_split, cut-joined}
 use Rattle.wire.proofs.Numbers.{Bytes, le_part_back}
-use Rattle.records.specs.declared.Written.TheVariants as written
 use Rattle.records.specs.Writing.{output_of}
 use Rattle.records.proofs.Laws.{refused_written, written_record, record_written}
-use Rattle.efskey.specs.declared.EfsKeyRead.TheVariants.{Accepted, Refused}
 use Rattle.efskey.specs.declared.EfsKeyPart.TheVariants.{Sid, Certificate}
 use Rattle.efskey.specs.Layout.{sid_offset, certificate_length, certificate_offset, sid_area, area_span, hint_of}
 use Rattle.efskey.specs.Reading.{efs_key_checks, efs_key_of, efs_key_number, span_of, efs_key_part}
@@ -26,7 +24,7 @@ use Rattle.efskey.proofs.Writing.{length-bytes, certificate_back, is_certificate
 
 -- a record that reads as a SID and a certificate
 pub record ReadsBack (s sid certificate : List ℕ) : Type 0 where
-  pub values : efs_key_of s ≡ Accepted (record { sid = hint_of (offset_for (length sid)) sid; certificate = record { at = 32 + length sid; len = length certificate } })
+  pub values : efs_key_of s ≡ Ok (record { sid = hint_of (offset_for (length sid)) sid; certificate = record { at = 32 + length sid; len = length certificate } })
   pub sid-bytes : efs_key_part s Sid ≡ sid
   pub certificate-bytes : efs_key_part s Certificate ≡ certificate
 
@@ -37,7 +35,7 @@ area_tells s p (no_hint some one zeros) = rw (some, ne_eqb (length (sid_area s))
 area_tells s p (present some sound) = rw (some, ne_eqb (length (sid_area s)) 0 (λ z. omega (arith, sound.size)))
 
 -- The parts of an accepted record: the SID area, and the bytes behind it.
-sid_is : (s : List ℕ) → first_of (efs_key_checks s) ≡ outcome.Accepted → efs_key_part s Sid ≡ sid_area s
+sid_is : (s : List ℕ) → first_of (efs_key_checks s) ≡ Ok tt → efs_key_part s Sid ≡ sid_area s
 unfolding efs_key_of unless_refused span_of sid_area
 sid_is s e = rw (e, hint_span_lem (sid_offset s) (sid_area s)) (told (checks_well_formed s e).sid)
   where
@@ -49,12 +47,12 @@ sid_is s e = rw (e, hint_span_lem (sid_offset s) (sid_area s)) (told (checks_wel
     told (no_hint some one zeros) = rw some there
     told (present some sound) = rw some there
 
-certificate_is : (s : List ℕ) → first_of (efs_key_checks s) ≡ outcome.Accepted → efs_key_part s Certificate ≡ part_of s (4 + certificate_offset s) (certificate_length s)
+certificate_is : (s : List ℕ) → first_of (efs_key_checks s) ≡ Ok tt → efs_key_part s Certificate ≡ part_of s (4 + certificate_offset s) (certificate_length s)
 unfolding efs_key_of unless_refused span_of
 certificate_is s e = rw e
 
 -- What the writer accepts reads back as given.
-pub reads_back : (sid certificate : List ℕ) → first_of (write_checks sid certificate) ≡ outcome.Accepted → ReadsBack (efs_key_bytes sid certificate) sid certificate
+pub reads_back : (sid certificate : List ℕ) → first_of (write_checks sid certificate) ≡ Ok tt → ReadsBack (efs_key_bytes sid certificate) sid certificate
 unfolding write_checks efs_key_of unless_refused
 reads_back sid certificate accepted =
     let s = efs_key_bytes sid certificate in
@@ -69,14 +67,14 @@ reads_back sid certificate accepted =
     }
 
 -- So do the first n bytes of the output, where the writer answers n.
-pub written_reads_back : (sid certificate out : List ℕ) (n : ℕ) → efs_key_written sid certificate (length out) ≡ written.Length n
-    → ReadsBack (take n (output_of (written.Length n) (efs_key_bytes sid certificate) out)) sid certificate
+pub written_reads_back : (sid certificate out : List ℕ) (n : ℕ) → efs_key_written sid certificate (length out) ≡ Ok n
+    → ReadsBack (take n (output_of (Ok n) (efs_key_bytes sid certificate) out)) sid certificate
 written_reads_back sid certificate out n e =
     let told = written_record (efs_key_bytes sid certificate) out n (length-bytes sid certificate) e in
     rw told.1 (reads_back sid certificate told.0)
 
 -- What the reader would refuse of the bytes, the writer refuses, whatever the room.
-pub refused_as_read : (sid certificate : List ℕ) (room : ℕ) (r : Refusal) → efs_key_of (efs_key_bytes sid certificate) ≡ Refused r → efs_key_written sid certificate room ≡ written.Refused r
+pub refused_as_read : (sid certificate : List ℕ) (room : ℕ) (r : Refusal) → efs_key_of (efs_key_bytes sid certificate) ≡ Err r → efs_key_written sid certificate room ≡ Err r
 unfolding write_checks
 refused_as_read sid certificate room r e = rw (refused_checks _ r e) (refused_written r _ room)
 
@@ -103,7 +101,7 @@ rewritten s p z =
 
 -- What was read from an accepted record, the writer accepts.
 accepts_read : (s : List ℕ) → efs_key_number (efs_key_of s) ≡ 0
-    → (first_of (write_checks (efs_key_part s Sid) (efs_key_part s Certificate)) ≡ outcome.Accepted) × (efs_key_length (efs_key_part s Sid) (efs_key_part s Certificate) ≡ length s)
+    → (first_of (write_checks (efs_key_part s Sid) (efs_key_part s Certificate)) ≡ Ok tt) × (efs_key_length (efs_key_part s Sid) (efs_key_part s Certificate) ≡ length s)
 accepts_read s z =
     let e = accepted-checks s z in
     let w = checks_well_formed s e in
@@ -118,7 +116,7 @@ accepts_read s z =
 
 -- So given room it is written: the same bytes but for Reserved2, then what stood behind them.
 pub rewrites : (s out : List ℕ) → Bytes s → efs_key_number (efs_key_of s) ≡ 0 → length s ≤ length out
-    → (efs_key_written (efs_key_part s Sid) (efs_key_part s Certificate) (length out) ≡ written.Length (length s))
+    → (efs_key_written (efs_key_part s Sid) (efs_key_part s Certificate) (length out) ≡ Ok (length s))
     × (output_of (efs_key_written (efs_key_part s Sid) (efs_key_part s Certificate) (length out)) (efs_key_bytes (efs_key_part s Sid) (efs_key_part s Certificate)) out
     ≡ (take 24 s ++ (replicate 8 0 ++ drop 32 s)) ++ drop (length s) out)
 rewrites s out b z room =

@@ -1,16 +1,14 @@
 -- Laws of the reader's answer.
 use Rattle.lemmas.proofs.Basics.{ℕ, ◌+◌, ◌-◌, ◌≤◌, arith, false, not, List, ◌≡◌, refl, ap, ◌∙◌, ltb, eqb, length, ltb-false, eqb-true}
+use Rattle.std.specs.Prelude.{Result, Ok, Err}
 use Rattle.lemmas.proofs.Cases.{cond_cases, or-false, not-false}
-use Rattle.refusal.specs.declared.Outcome.{Outcome}
-use Rattle.refusal.specs.declared.Outcome.TheVariants as outcome
+use Rattle.refusal.specs.Outcome.{Outcome}
 use Rattle.refusal.specs.declared.Refusal.{Refusal}
 use Rattle.refusal.specs.Chain.{first_of, unless_refused}
 use Rattle.refusal.proofs.Chains.{accepted_pass, pass_accepted, unless_zero}
 use Rattle.wire.specs.declared.Span.{Span}
 use Rattle.wire.proofs.Parts.{length_part}
 use Rattle.efskey.specs.declared.EfsKey.{EfsKey}
-use Rattle.efskey.specs.declared.EfsKeyRead.{EfsKeyRead}
-use Rattle.efskey.specs.declared.EfsKeyRead.TheVariants.{Accepted, Refused}
 use Rattle.efskey.specs.declared.EfsKeyPart.{EfsKeyPart}
 use Rattle.efskey.specs.declared.EfsKeyPart.TheVariants.{Sid, Certificate}
 use Rattle.efskey.specs.Layout.{length1, length2, sid_offset, reserved1, certificate_length, certificate_offset, lengths_disagree, certificate_misplaced, sid_misplaced, gap_without_sid, sid_area, sid_malformed, hint_in}
@@ -18,8 +16,8 @@ use Rattle.efskey.specs.Reading.{head_checks, efs_key_checks, shown, efs_key_of,
 use Rattle.efskey.proofs.Hints.{hint_span_lem}
 
 -- the answer of an outcome
-abbrev pub answer : Outcome → EfsKey → EfsKeyRead
-answer o key = unless_refused Refused o (Accepted key)
+abbrev pub answer : Outcome → EfsKey → Result EfsKey Refusal
+answer o key = unless_refused Err o (Ok key)
 
 -- The answer from the outcome of the checks, and what is shown.
 pub efskey_judged : (s : List ℕ) {o : Outcome} {key : EfsKey} → o ≡ first_of (efs_key_checks s) → key ≡ shown s → efs_key_of s ≡ answer o key
@@ -27,18 +25,18 @@ unfolding efs_key_of
 efskey_judged s judged is-shown = rw (judged, is-shown)
 
 -- A refused record: the first check that applies gives that refusal.
-pub refused_checks : (s : List ℕ) (r : Refusal) → efs_key_of s ≡ Refused r → first_of (efs_key_checks s) ≡ outcome.Refused r
+pub refused_checks : (s : List ℕ) (r : Refusal) → efs_key_of s ≡ Err r → first_of (efs_key_checks s) ≡ Err r
 unfolding efs_key_of unless_refused
 refused_checks s r = told (first_of (efs_key_checks s))
   where
-    told : (o : Outcome) → answer o (shown s) ≡ Refused r → o ≡ outcome.Refused r
-    told outcome.Accepted h = let z : ◌≡◌ {A = ℕ} 0 1 = cc in absurd (omega arith)
-    told (outcome.Refused q) h = ap outcome.Refused (cc)
+    told : (o : Outcome) → answer o (shown s) ≡ Err r → o ≡ Err r
+    told (Ok tt) h = let z : ◌≡◌ {A = ℕ} 0 1 = cc in absurd (omega arith)
+    told (Err q) h = ap Err (cc)
 
 -- An accepted record: no check applies.
-pub accepted-checks : (s : List ℕ) → efs_key_number (efs_key_of s) ≡ 0 → first_of (efs_key_checks s) ≡ outcome.Accepted
+pub accepted-checks : (s : List ℕ) → efs_key_number (efs_key_of s) ≡ 0 → first_of (efs_key_checks s) ≡ Ok tt
 unfolding efs_key_of efs_key_number
-accepted-checks s z = (unless_zero efs_key_number Refused (λ r. refl) (first_of (efs_key_checks s)) _ z).0
+accepted-checks s z = (unless_zero efs_key_number Err (λ r. refl) (first_of (efs_key_checks s)) _ z).0
 
 -- what checks that are passed say of a record
 pub record Passed (s : List ℕ) : Type 0 where
@@ -52,7 +50,7 @@ pub record Passed (s : List ℕ) : Type 0 where
   pub gap : gap_without_sid (sid_offset s) (certificate_offset s) ≡ false
   pub sid : sid_malformed (hint_in s) (sid_area s) ≡ false
 
-pub passed : (s : List ℕ) → first_of (efs_key_checks s) ≡ outcome.Accepted → Passed s
+pub passed : (s : List ℕ) → first_of (efs_key_checks s) ≡ Ok tt → Passed s
 unfolding efs_key_checks head_checks
 passed s e =
     let p = accepted_pass (efs_key_checks s) e in
@@ -70,7 +68,7 @@ passed s e =
       sid = sid.1.1.0;
     }
 
-pub passes : (s : List ℕ) → Passed s → first_of (efs_key_checks s) ≡ outcome.Accepted
+pub passes : (s : List ℕ) → Passed s → first_of (efs_key_checks s) ≡ Ok tt
 unfolding efs_key_checks head_checks
 passes s p =
     pass_accepted (efs_key_checks s) (p.limit, (p.head, (p.lengths, (p.marked, (p.certificate, (p.place, (p.offset, (p.gap, (p.sid, tt)))))))))
@@ -97,8 +95,8 @@ unfolding efs_key_of unless_refused span_of
 part_inside s which = told (first_of (efs_key_checks s)) refl which
   where
     told : (o : Outcome) → first_of (efs_key_checks s) ≡ o → (which : EfsKeyPart) → (efs_key_span s which).at + (efs_key_span s which).len ≤ length s
-    told outcome.Accepted e Sid =
+    told (Ok tt) e Sid =
         rw (e, hint_span_lem (sid_offset s) (sid_area s))
         (cond_cases (λ (span : Span). span.at + span.len ≤ length s) (eqb (sid_offset s) 0) (λ _. omega arith) (λ _. omega (arith, placed s (passed s e), area_length s (passed s e))))
-    told outcome.Accepted e Certificate = rw e (omega (arith, placed s (passed s e)))
-    told (outcome.Refused r) e which = rw e (omega arith)
+    told (Ok tt) e Certificate = rw e (omega (arith, placed s (passed s e)))
+    told (Err r) e which = rw e (omega arith)

@@ -1,7 +1,7 @@
 -- Laws of the writer: what its bytes read as, and which checks can apply to them.
 use Rattle.lemmas.proofs.Basics.{ℕ, ◌+◌, ◌-◌, ◌^◌, ◌≤◌, ◌<◌, arith, Bool, true, false, not, List, [], ◌∷◌, ◌++◌, append-nil, ◌≡◌, refl, sym, ap, ◌∙◌, ltb, eqb, length, length-append, le-ltb, ltb-false, eq-eqb, eqb-true}
+use Rattle.std.specs.Prelude.{Ok}
 use Rattle.lemmas.proofs.Cases.{cond_cases, false-or}
-use Rattle.refusal.specs.declared.Outcome.TheVariants as outcome
 use Rattle.refusal.specs.declared.Refusal.TheVariants.{TooLong, EmptyItem, MalformedSid}
 use Rattle.refusal.specs.Chain.{Check, ◌⇒◌, first_of}
 use Rattle.refusal.proofs.Chains.{accepted_pass, first_next, first_after}
@@ -104,5 +104,5 @@ module _ (sid certificate : List ℕ) where
       ends = false-or (le-ltb (28 + length sid) 28 (omega arith)) (ap not (eq-eqb (4 + (28 + length sid) + length certificate) size (omega arith)))
 
   -- What is accepted is within the limit.
-  pub within_limit : first_of (write_checks sid certificate) ≡ outcome.Accepted → size ≤ 65535
+  pub within_limit : first_of (write_checks sid certificate) ≡ Ok tt → size ≤ 65535
   within_limit e = ltb-false 65535 size (accepted_pass given_checks (sym write_checks_lem ∙ e)).0

@@ -1,14 +1,12 @@
 -- Document 01, "EfsKey", with No. 2 of document 02: the numbers of the head, the rules that are made of them, and the SID area. Both
 -- offsets count from byte 4; sums are whole numbers.
-use Rattle.std.specs.Prelude.{ℕ, ◌+◌, ◌-◌, Bool, false, not, cond, ◌&&◌, ◌||◌, List, leb, ltb, eqb, length, get_or}
+use Rattle.std.specs.Prelude.{ℕ, ◌+◌, ◌-◌, Bool, false, not, cond, ◌&&◌, ◌||◌, List, leb, ltb, eqb, length, get_or, Option, Some}
 use Rattle.lemmas.specs.Counting.{every}
 use Rattle.wire.specs.declared.Span.{Span}
 use Rattle.wire.specs.Parts.{part_of, le_at}
 use Rattle.sid.specs.Rule.{is_sid}
 use Rattle.efskey.specs.declared.SidHint.{SidHint}
 use Rattle.efskey.specs.declared.SidHint.TheVariants.{None, Sid, NoHint}
-use Rattle.efskey.specs.declared.SidArea.{SidArea}
-use Rattle.efskey.specs.declared.SidArea.TheVariants.{Holds, Malformed}
 
 -- Length1 at 0, Length2 at 4, SID offset at 8, Reserved1 at 12, certificate length at 16, certificate offset at 20
 abbrev pub length1 : List ℕ → ℕ
@@ -71,8 +69,8 @@ sid_malformed (Sid span) area = not (is_sid area)
 sid_malformed (NoHint span) area = false
 
 -- what judging the area answers
-unfoldable pub area_of : ℕ → List ℕ → SidArea
-area_of offset area = cond (sid_malformed (hint_of offset area) area) Malformed (Holds (hint_of offset area))
+unfoldable pub area_of : ℕ → List ℕ → Option SidHint
+area_of offset area = cond (sid_malformed (hint_of offset area) area) None (Some (hint_of offset area))
 
 -- of a record
 abbrev pub hint_in : List ℕ → SidHint

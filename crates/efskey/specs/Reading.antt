@@ -1,5 +1,6 @@
 -- Document 01, "EfsKey", with No. 2 of document 02: what the reader answers.
-use Rattle.std.specs.Prelude.{ℕ, ◌+◌, not, List, [], ◌∷◌, ◌++◌, ltb, eqb, length}
+use Rattle.std.specs.Prelude.{ℕ, ◌+◌, not, List, [], ◌∷◌, ◌++◌, ltb, eqb, length, Result, Ok, Err}
+use Rattle.refusal.specs.declared.Refusal.{Refusal}
 use Rattle.refusal.specs.declared.Refusal.TheVariants.{TooLong, Short, LengthsDisagree, WrongMark, EmptyItem, Misplaced, MalformedSid}
 use Rattle.refusal.specs.Number.{number_of}
 use Rattle.refusal.specs.Chain.{Check, ◌⇒◌, first_of, unless_refused}
@@ -8,8 +9,6 @@ use Rattle.wire.specs.Parts.{part_of}
 use Rattle.efskey.specs.declared.SidHint.{SidHint}
 use Rattle.efskey.specs.declared.SidHint.TheVariants as hint
 use Rattle.efskey.specs.declared.EfsKey.{EfsKey}
-use Rattle.efskey.specs.declared.EfsKeyRead.{EfsKeyRead}
-use Rattle.efskey.specs.declared.EfsKeyRead.TheVariants.{Accepted, Refused}
 use Rattle.efskey.specs.declared.EfsKeyPart.{EfsKeyPart}
 use Rattle.efskey.specs.declared.EfsKeyPart.TheVariants as part
 use Rattle.efskey.specs.Layout.{length1, length2, sid_offset, reserved1, certificate_length, certificate_offset, lengths_disagree, certificate_misplaced, sid_misplaced, gap_without_sid, sid_area, sid_malformed, hint_in}
@@ -46,13 +45,13 @@ abbrev pub shown : List ℕ → EfsKey
 shown s = shown_with s (hint_in s)
 
 -- what the reader answers
-unfoldable pub efs_key_of : List ℕ → EfsKeyRead
-efs_key_of s = unless_refused Refused (first_of (efs_key_checks s)) (Accepted (shown s))
+unfoldable pub efs_key_of : List ℕ → Result EfsKey Refusal
+efs_key_of s = unless_refused Err (first_of (efs_key_checks s)) (Ok (shown s))
 
 -- document 01's numbers: 0, or the refusal's
-unfoldable pub efs_key_number : EfsKeyRead → ℕ
-efs_key_number (Accepted key) = 0
-efs_key_number (Refused r) = number_of r
+unfoldable pub efs_key_number : Result EfsKey Refusal → ℕ
+efs_key_number (Ok key) = 0
+efs_key_number (Err r) = number_of r
 
 -- the kind of SID: 1 where one is shown, 2 where no hint is given, 0 where there is none and on a refusal
 unfoldable pub hint_kind : SidHint → ℕ
@@ -60,9 +59,9 @@ hint_kind hint.None = 0
 hint_kind (hint.Sid span) = 1
 hint_kind (hint.NoHint span) = 2
 
-unfoldable pub sid_kind : EfsKeyRead → ℕ
-sid_kind (Accepted key) = hint_kind key.sid
-sid_kind (Refused r) = 0
+unfoldable pub sid_kind : Result EfsKey Refusal → ℕ
+sid_kind (Ok key) = hint_kind key.sid
+sid_kind (Err r) = 0
 
 -- where a part stands: 0 and 0 for an absent SID, and on a refusal
 unfoldable pub hint_span : SidHint → Span
@@ -70,10 +69,10 @@ hint_span hint.None = record { at = 0; len = 0 }
 hint_span (hint.Sid span) = span
 hint_span (hint.NoHint span) = span
 
-unfoldable pub span_of : EfsKeyRead → EfsKeyPart → Span
-span_of (Accepted key) part.Sid = hint_span key.sid
-span_of (Accepted key) part.Certificate = key.certificate
-span_of (Refused r) which = record { at = 0; len = 0 }
+unfoldable pub span_of : Result EfsKey Refusal → EfsKeyPart → Span
+span_of (Ok key) part.Sid = hint_span key.sid
+span_of (Ok key) part.Certificate = key.certificate
+span_of (Err r) which = record { at = 0; len = 0 }
 
 abbrev pub efs_key_span : List ℕ → EfsKeyPart → Span
 efs_key_span s which = span_of (efs_key_of s) which

@@ -1,9 +1,9 @@
 -- Document 01, "EfsKey", with No. 2 of document 02: what the writer makes and answers.
-use Rattle.std.specs.Prelude.{ℕ, ◌+◌, ◌-◌, cond, List, [], ◌∷◌, eqb, length}
+use Rattle.std.specs.Prelude.{ℕ, ◌+◌, ◌-◌, cond, List, [], ◌∷◌, eqb, length, Result}
+use Rattle.refusal.specs.declared.Refusal.{Refusal}
 use Rattle.refusal.specs.Chain.{Check, first_of}
 use Rattle.wire.specs.Numbers.{le_bytes}
 use Rattle.wire.specs.Parts.{joined}
-use Rattle.records.specs.declared.Written.{Written}
 use Rattle.records.specs.Writing.{written_of}
 use Rattle.efskey.specs.Reading.{efs_key_checks}
 
@@ -40,5 +40,5 @@ unfoldable pub write_checks : List ℕ → List ℕ → List Check
 write_checks sid certificate = efs_key_checks (efs_key_bytes sid certificate)
 
 -- what those checks say, then 13 where the output has not that many bytes
-abbrev pub efs_key_written : List ℕ → List ℕ → ℕ → Written
+abbrev pub efs_key_written : List ℕ → List ℕ → ℕ → Result ℕ Refusal
 efs_key_written sid certificate room = written_of (first_of (write_checks sid certificate)) (efs_key_length sid certificate) room

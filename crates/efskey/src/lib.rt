@@ -81,19 +81,19 @@ impl SidArea {
         ensures { result ≡ area_of offset area.now }
     {
         if offset == 0 {
-            return SidArea::Holds(SidHint::None);
+            return Some(SidHint::None);
         }
         let span = Span {
             at: 32,
             len: area.len(),
         };
         if is_sid(area) {
-            return SidArea::Holds(SidHint::Sid(span));
+            return Some(SidHint::Sid(span));
         }
         if is_no_hint(area) {
-            return SidArea::Holds(SidHint::NoHint(span));
+            return Some(SidHint::NoHint(span));
         }
-        SidArea::Malformed
+        None
     }
 }
 
@@ -103,7 +103,7 @@ impl EfsKeyRead {
         ensures { result ≡ span_of self which }
     {
         match self {
-            EfsKeyRead::Accepted(key) => {
+            Ok(key) => {
                 let sid = key.sid;
                 let certificate = key.certificate;
                 match which {
@@ -111,7 +111,7 @@ impl EfsKeyRead {
                     EfsKeyPart::Certificate => certificate,
                 }
             }
-            EfsKeyRead::Refused(_) => Span { at: 0, len: 0 },
+            Err(_) => Span { at: 0, len: 0 },
         }
     }
 }
@@ -120,12 +120,12 @@ impl EfsKeyRead {
 pub fn read(s: &[u8]) -> EfsKeyRead
     ensures { result ≡ efs_key_of s.now }
 {
-    if let Outcome::Refused(refusal) = judge_head(s) {
-        return EfsKeyRead::Refused(refusal);
+    if let Err(refusal) = judge_head(s) {
+        return Err(refusal);
     }
     match SidArea::of(le32_at(s, 8), area_in(s)) {
-        SidArea::Holds(sid) => EfsKeyRead::Accepted(shown(s, sid)),
-        SidArea::Malformed => EfsKeyRead::Refused(Refusal::MalformedSid),
+        Some(sid) => Ok(shown(s, sid)),
+        None => Err(Refusal::MalformedSid),
     }
 }
 
@@ -135,26 +135,26 @@ fn judge_head(s: &[u8]) -> Outcome
 {
     let len = s.len();
     if LIMIT < len {
-        return Outcome::Refused(Refusal::TooLong);
+        return Err(Refusal::TooLong);
     }
     if len < 32 {
-        return Outcome::Refused(Refusal::Short);
+        return Err(Refusal::Short);
     }
     let total = le32_at(s, 0);
     if do_disagree(total, le32_at(s, 4), len) {
-        return Outcome::Refused(Refusal::LengthsDisagree);
+        return Err(Refusal::LengthsDisagree);
     }
     if le32_at(s, 12) != 2 {
-        return Outcome::Refused(Refusal::WrongMark);
+        return Err(Refusal::WrongMark);
     }
     let certificate = le32_at(s, 16);
     if certificate == 0 {
-        return Outcome::Refused(Refusal::EmptyItem);
+        return Err(Refusal::EmptyItem);
     }
     if is_misplaced(le32_at(s, 8), le32_at(s, 20), certificate, total) {
-        return Outcome::Refused(Refusal::Misplaced);
+        return Err(Refusal::Misplaced);
     }
-    Outcome::Accepted
+    Ok(())
 }
 
 // 3 unless Length1 is the record's length and Length2 = Length1 - 4.
@@ -249,15 +249,15 @@ pub fn write(out: &mut [u8], sid: &[u8], certificate: &[u8]) -> Written
     ensures answer { result ≡ efs_key_written sid.now certificate.now (length out.old) }
     ensures output { out.new ≡ output_of result (efs_key_bytes sid.now certificate.now) out.old }
 {
-    if let Outcome::Refused(refusal) = judge_given(sid, certificate) {
-        return Written::Refused(refusal);
+    if let Err(refusal) = judge_given(sid, certificate) {
+        return Err(refusal);
     }
     let len = 32 + sid.len() + certificate.len();
     if out.len() < len {
-        return Written::Refused(Refusal::NoRoom);
+        return Err(Refusal::NoRoom);
     }
     put(out, sid, certificate);
-    Written::Length(len)
+    Ok(len)
 }
 
 // What the reader would say of the bytes: of its refusals only 1, 7 and 12 can occur.
@@ -265,14 +265,14 @@ fn judge_given(sid: &[u8], certificate: &[u8]) -> Outcome
     ensures { result ≡ first_of (write_checks sid.now certificate.now) }
 {
     if LIMIT < grown(grown(32, sid.len()), certificate.len()) {
-        return Outcome::Refused(Refusal::TooLong);
+        return Err(Refusal::TooLong);
     }
     if certificate.len() == 0 {
-        return Outcome::Refused(Refusal::EmptyItem);
+        return Err(Refusal::EmptyItem);
     }
     match SidArea::of(offset_for(sid.len()), sid) {
-        SidArea::Holds(_) => Outcome::Accepted,
-        SidArea::Malformed => Outcome::Refused(Refusal::MalformedSid),
+        Some(_) => Ok(()),
+        None => Err(Refusal::MalformedSid),
     }
 }
 

@@ -1,6 +1,6 @@
 -- Laws of the form that an envelope's keys make: its seed keys are the keys that are there, unless the envelope is public.
 use Rattle.lemmas.proofs.Basics.{ℕ, Bool, true, false, cond, not, ◌&&◌, and-false, List, ◌≡◌, refl, ◌∙◌, eqb, eq-eqb}
-use Rattle.refusal.specs.declared.Outcome.TheVariants.{Accepted}
+use Rattle.std.specs.Prelude.{Ok}
 use Rattle.refusal.specs.Chain.{first_of}
 use Rattle.refusal.proofs.Chains.{first_next}
 use Rattle.gkid.specs.declared.Gkid.{Gkid}
@@ -56,6 +56,6 @@ module _ (s : List ℕ) (z : envelope_number (envelope_of s) ≡ 0) where
   keys_64 = rw (form_keys (shown s)) (seed_64 _ _ _ _ _ (accepted-keys s z).1)
 
   -- A seed envelope at that identifier with just those keys is accepted too.
-  pub seed_accepted : first_of (seed_checks own at) ≡ Accepted
+  pub seed_accepted : first_of (seed_checks own at) ≡ Ok tt
   unfolding seed_checks shown bodies_of
   seed_accepted = first_next _ _ _ (not_above at (accepted-keys s z).0) ∙ rw (form_keys (shown s)) (seed_alone _ at _ _ _ (accepted-keys s z).1)

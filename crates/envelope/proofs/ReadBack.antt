@@ -1,21 +1,19 @@
 -- What the writer accepted reads back as given; writing what was read from an accepted envelope gives the same bytes; and an absent
 -- key is an empty part.
 use Rattle.lemmas.proofs.Basics.{ℕ, ◌+◌, ◌≤◌, arith, List, [], ◌∷◌, ◌++◌, ◌≡◌, refl, sym, ap, ◌∙◌, length, take, drop}
-use Rattle.refusal.specs.declared.Outcome.{Outcome}
-use Rattle.refusal.specs.declared.Outcome.TheVariants as outcome
+use Rattle.std.specs.Prelude.{Ok, Err}
+use Rattle.refusal.specs.Outcome.{Outcome}
 use Rattle.refusal.specs.Chain.{first_of, unless_refused}
 use Rattle.wire.specs.Numbers.{le_of, le_bytes}
 use Rattle.wire.specs.Parts.{le_at, part_of, joined}
 use Rattle.wire.proofs.Numbers.{Bytes, le_part_back}
 use Rattle.wire.proofs.Parts.{part_empty, part_whole, length_part, total, cut-joined}
-use Rattle.records.specs.declared.Written.TheVariants as written
 use Rattle.records.specs.Writing.{output_of}
 use Rattle.records.proofs.Laws.{written_record, record_written}
 use Rattle.rootid.proofs.Roots.{root_bytes_lem}
 use Rattle.envelope.specs.declared.Head.{Head}
 use Rattle.envelope.specs.declared.EnvelopePart.{EnvelopePart}
 use Rattle.envelope.specs.declared.EnvelopePart.TheVariants.{Kdf, KdfParameters, Agreement, AgreementParameters, Domain, Forest, L1Key, L2Key}
-use Rattle.envelope.specs.declared.EnvelopeRead.TheVariants.{Accepted}
 use Rattle.envelope.specs.Layout.{head_of, lengths_of, bodies_of, body_span}
 use Rattle.envelope.specs.Reading.{envelope_checks, shown, envelope_of, envelope_number, span_of, body_at, envelope_part}
 use Rattle.envelope.specs.WellFormed.{WellFormed}
@@ -26,22 +24,22 @@ use Rattle.envelope.proofs.Writing.{Fit, body_given, length-bytes, is_head, are_
 
 -- an envelope that reads as these: the head's values, and each body byte for byte
 pub record ReadsBack (s : List ℕ) (h : Head) (g : Given) : Type 0 where
-  pub values : envelope_of s ≡ Accepted (record { head = h; bodies = bodies_of (given_lengths g) })
+  pub values : envelope_of s ≡ Ok (record { head = h; bodies = bodies_of (given_lengths g) })
   pub bodies : (which : EnvelopePart) → envelope_part s which ≡ body_given g which
 
 -- What the writer accepts reads back as given.
-pub reads_back : (h : Head) (g : Given) → Fit h → first_of (write_checks h g) ≡ outcome.Accepted → ReadsBack (envelope_bytes h g) h g
+pub reads_back : (h : Head) (g : Given) → Fit h → first_of (write_checks h g) ≡ Ok tt → ReadsBack (envelope_bytes h g) h g
 unfolding write_checks envelope_of unless_refused shown span_of
 reads_back h g fit accepted =
     let small = within_limit h g accepted in
-    let read : envelope_of (envelope_bytes h g) ≡ Accepted (record { head = h; bodies = bodies_of (given_lengths g) }) =
+    let read : envelope_of (envelope_bytes h g) ≡ Ok (record { head = h; bodies = bodies_of (given_lengths g) }) =
     rw (accepted, is_head h g fit small, are_lengths h g fit small)
     in
     record { values = read; bodies = λ which. rw read (body_is h g which) }
 
 -- So do the first n bytes of the output, where the writer answers n.
-pub written_reads_back : (h : Head) (g : Given) (out : List ℕ) (n : ℕ) → Fit h → envelope_written h g (length out) ≡ written.Length n
-    → ReadsBack (take n (output_of (written.Length n) (envelope_bytes h g) out)) h g
+pub written_reads_back : (h : Head) (g : Given) (out : List ℕ) (n : ℕ) → Fit h → envelope_written h g (length out) ≡ Ok n
+    → ReadsBack (take n (output_of (Ok n) (envelope_bytes h g) out)) h g
 written_reads_back h g out n fit e =
     let told = written_record (envelope_bytes h g) out n (length-bytes h g) e in
     rw told.1 (reads_back h g fit told.0)
@@ -112,7 +110,7 @@ rewritten s b z =
 
 -- The writer accepts it given room: the same bytes, then what stood behind them.
 pub rewrites : (s out : List ℕ) → Bytes s → envelope_number (envelope_of s) ≡ 0 → length s ≤ length out
-    → (envelope_written (head_of s) (bodies_read s) (length out) ≡ written.Length (length s))
+    → (envelope_written (head_of s) (bodies_read s) (length out) ≡ Ok (length s))
     × (output_of (envelope_written (head_of s) (bodies_read s) (length out)) (envelope_bytes (head_of s) (bodies_read s)) out ≡ s ++ drop (length s) out)
 unfolding write_checks
 rewrites s out b z room =
@@ -127,5 +125,5 @@ unfolding envelope_of unless_refused shown span_of
 absent s which none = told (first_of (envelope_checks s))
   where
     told : (o : Outcome) → part_of s (span_of (answer o (shown s)) which).at (span_of (answer o (shown s)) which).len ≡ []
-    told outcome.Accepted = ap (part_of s (body_span (bodies_of (lengths_of s)) which).at) none ∙ part_empty s _
-    told (outcome.Refused r) = part_empty s 0
+    told (Ok tt) = ap (part_of s (body_span (bodies_of (lengths_of s)) which).at) none ∙ part_empty s _
+    told (Err r) = part_empty s 0

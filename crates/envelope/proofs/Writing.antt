@@ -1,6 +1,6 @@
 -- Laws of the writer: what its bytes read as, and which checks can apply to them.
 use Rattle.lemmas.proofs.Basics.{ℕ, ◌^◌, ◌≤◌, ◌<◌, arith, not, List, [], ◌∷◌, ◌++◌, append-nil, append_assoc, ◌≡◌, refl, ap, ◌∙◌, ltb, length, take, le-ltb, ltb-false, eq-eqb}
-use Rattle.refusal.specs.declared.Outcome.TheVariants as outcome
+use Rattle.std.specs.Prelude.{Ok}
 use Rattle.refusal.specs.declared.Refusal.TheVariants.{TooLong, IndexAbove31}
 use Rattle.refusal.specs.Chain.{Check, ◌⇒◌, first_of}
 use Rattle.refusal.proofs.Chains.{first_next, first_after}
@@ -146,6 +146,6 @@ write_checks_lem h g fit =
     ∙ first_after _ _ _ _ (λ _. first_next _ _ _ (ap not (eq-eqb (envelope_length g) (envelope_length g) refl))))))
 
 -- What is accepted is within the limit.
-pub within_limit : (h : Head) (g : Given) → first_of (write_checks h g) ≡ outcome.Accepted → envelope_length g ≤ 65535
+pub within_limit : (h : Head) (g : Given) → first_of (write_checks h g) ≡ Ok tt → envelope_length g ≤ 65535
 unfolding write_checks
 within_limit h g e = rw (length-bytes h g) at (ltb-false 65535 (length (envelope_bytes h g)) (passed _ e).limit)

@@ -1,5 +1,6 @@
 -- Document 01, "Group Key Envelope": what the reader answers.
-use Rattle.std.specs.Prelude.{ℕ, not, cond, ◌&&◌, List, [], ◌∷◌, ◌++◌, ltb, eqb, length}
+use Rattle.std.specs.Prelude.{ℕ, not, cond, ◌&&◌, List, [], ◌∷◌, ◌++◌, ltb, eqb, length, Result, Ok, Err}
+use Rattle.refusal.specs.declared.Refusal.{Refusal}
 use Rattle.refusal.specs.declared.Refusal.TheVariants.{TooLong, Short, LengthsDisagree, WrongMark, IndexAbove31}
 use Rattle.refusal.specs.Chain.{Check, ◌⇒◌, first_of, unless_refused}
 use Rattle.refusal.specs.Number.{number_of}
@@ -15,8 +16,6 @@ use Rattle.envelope.specs.declared.Head.{Head}
 use Rattle.envelope.specs.declared.EnvelopePart.{EnvelopePart}
 use Rattle.envelope.specs.declared.EnvelopePart.TheVariants.{Kdf, Agreement, Domain, Forest}
 use Rattle.envelope.specs.declared.Envelope.{Envelope}
-use Rattle.envelope.specs.declared.EnvelopeRead.{EnvelopeRead}
-use Rattle.envelope.specs.declared.EnvelopeRead.TheVariants.{Accepted, Refused}
 use Rattle.envelope.specs.Layout.{mark, head_of, is_public, lengths_of, end_at, bodies_of, body_span}
 
 -- the bytes of a body, by the lengths of the head
@@ -51,20 +50,20 @@ unfoldable pub shown : List ℕ → Envelope
 shown s = record { head = head_of s; bodies = bodies_of (lengths_of s) }
 
 -- what the reader answers
-unfoldable pub envelope_of : List ℕ → EnvelopeRead
-envelope_of s = unless_refused Refused (first_of (envelope_checks s)) (Accepted (shown s))
+unfoldable pub envelope_of : List ℕ → Result Envelope Refusal
+envelope_of s = unless_refused Err (first_of (envelope_checks s)) (Ok (shown s))
 
 -- document 01's number and values: 0 and what is shown, or the refusal's number and zeros
-unfoldable pub envelope_number : EnvelopeRead → ℕ
-envelope_number (Accepted e) = 0
-envelope_number (Refused r) = number_of r
+unfoldable pub envelope_number : Result Envelope Refusal → ℕ
+envelope_number (Ok e) = 0
+envelope_number (Err r) = number_of r
 
 abbrev no_body : Span
 no_body = record { at = 0; len = 0 }
 
-unfoldable pub envelope_values : EnvelopeRead → Envelope
-envelope_values (Accepted e) = e
-envelope_values (Refused r) =
+unfoldable pub envelope_values : Result Envelope Refusal → Envelope
+envelope_values (Ok e) = e
+envelope_values (Err r) =
     record {
       head = record { version = 0; flags = 0; at = gkid 0 0 0; root = record { low = 0; high = 0 }; private_length = 0; public_length = 0 };
       bodies =
@@ -81,9 +80,9 @@ envelope_values (Refused r) =
     }
 
 -- where a body stands; 0 and 0 on a refusal
-unfoldable pub span_of : EnvelopeRead → EnvelopePart → Span
-span_of (Accepted e) which = body_span e.bodies which
-span_of (Refused r) which = no_body
+unfoldable pub span_of : Result Envelope Refusal → EnvelopePart → Span
+span_of (Ok e) which = body_span e.bodies which
+span_of (Err r) which = no_body
 
 abbrev pub envelope_span : List ℕ → EnvelopePart → Span
 envelope_span s which = span_of (envelope_of s) which

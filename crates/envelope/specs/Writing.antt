@@ -1,10 +1,10 @@
 -- Document 01, "Group Key Envelope": what the writer makes and answers.
-use Rattle.std.specs.Prelude.{ℕ, List, [], ◌∷◌, ◌++◌, length}
+use Rattle.std.specs.Prelude.{ℕ, List, [], ◌∷◌, ◌++◌, length, Result}
+use Rattle.refusal.specs.declared.Refusal.{Refusal}
 use Rattle.refusal.specs.Chain.{Check, first_of}
 use Rattle.wire.specs.Numbers.{le_bytes}
 use Rattle.wire.specs.Parts.{joined}
 use Rattle.rootid.specs.Root.{root_bytes}
-use Rattle.records.specs.declared.Written.{Written}
 use Rattle.records.specs.Writing.{written_of}
 use Rattle.envelope.specs.declared.Head.{Head}
 use Rattle.envelope.specs.declared.Lengths.{Lengths}
@@ -80,5 +80,5 @@ unfoldable pub write_checks : Head → Given → List Check
 write_checks h g = envelope_checks (envelope_bytes h g)
 
 -- what those checks say, then 13 where the output has not that many bytes
-abbrev pub envelope_written : Head → Given → ℕ → Written
+abbrev pub envelope_written : Head → Given → ℕ → Result ℕ Refusal
 envelope_written h g room = written_of (first_of (write_checks h g)) (envelope_length g) room

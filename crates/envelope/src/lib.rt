@@ -95,11 +95,11 @@ impl EnvelopeRead {
         ensures { result ≡ span_of self which }
     {
         match self {
-            EnvelopeRead::Accepted(envelope) => {
+            Ok(envelope) => {
                 let bodies = envelope.bodies;
                 bodies.span(which)
             }
-            EnvelopeRead::Refused(_) => Span { at: 0, len: 0 },
+            Err(_) => Span { at: 0, len: 0 },
         }
     }
 }
@@ -160,11 +160,11 @@ pub fn read(s: &[u8]) -> EnvelopeRead
     ensures { result ≡ envelope_of s.now }
 {
     match judge(s) {
-        Outcome::Accepted => {
-            return EnvelopeRead::Accepted(shown(s));
+        Ok(()) => {
+            return Ok(shown(s));
         }
-        Outcome::Refused(refusal) => {
-            return EnvelopeRead::Refused(refusal);
+        Err(refusal) => {
+            return Err(refusal);
         }
     }
 }
@@ -174,11 +174,11 @@ fn judge(s: &[u8]) -> Outcome
     ensures { result ≡ first_of (envelope_checks s.now) }
 {
     match judge_head(s) {
-        Outcome::Accepted => {
+        Ok(()) => {
             return judge_layout(s);
         }
-        Outcome::Refused(refusal) => {
-            return Outcome::Refused(refusal);
+        Err(refusal) => {
+            return Err(refusal);
         }
     }
 }
@@ -188,15 +188,15 @@ pub fn judge_head(s: &[u8]) -> Outcome
     ensures { result ≡ first_of (head_checks s.now) }
 {
     if LIMIT < s.len() {
-        return Outcome::Refused(Refusal::TooLong);
+        return Err(Refusal::TooLong);
     }
     if s.len() < 80 {
-        return Outcome::Refused(Refusal::Short);
+        return Err(Refusal::Short);
     }
     if le32_at(s, 4) != 0x4B53444B {
-        return Outcome::Refused(Refusal::WrongMark);
+        return Err(Refusal::WrongMark);
     }
-    Outcome::Accepted
+    Ok(())
 }
 
 // 5, 3, and the rules of the bodies, which are looked at only where indices and lengths are sound.
@@ -206,18 +206,18 @@ fn judge_layout(s: &[u8]) -> Outcome
     let head = head_of(s);
     let at = head.at;
     if at.index_above_31() {
-        return Outcome::Refused(Refusal::IndexAbove31);
+        return Err(Refusal::IndexAbove31);
     }
     let n = lengths_of(s);
     if end_of(n) != s.len() {
-        return Outcome::Refused(Refusal::LengthsDisagree);
+        return Err(Refusal::LengthsDisagree);
     }
     match judge_texts(s, bodies_of(n)) {
-        Outcome::Accepted => {
+        Ok(()) => {
             return judge_keys(head, n.l1_key as usize, n.l2_key as usize);
         }
-        Outcome::Refused(refusal) => {
-            return Outcome::Refused(refusal);
+        Err(refusal) => {
+            return Err(refusal);
         }
     }
 }
@@ -240,14 +240,14 @@ fn end_of(n: Lengths) -> usize
 fn judge_texts(s: &[u8], bodies: Bodies) -> Outcome
     ensures { result ≡ first_of (four_texts (part_of s.now bodies.kdf.at bodies.kdf.len) (part_of s.now bodies.agreement.at bodies.agreement.len) (part_of s.now bodies.domain.at bodies.domain.len) (part_of s.now bodies.forest.at bodies.forest.len)) }
 {
-    if let Outcome::Refused(refusal) = text::judge(wire::part(s, bodies.kdf)) {
-        return Outcome::Refused(refusal);
+    if let Err(refusal) = text::judge(wire::part(s, bodies.kdf)) {
+        return Err(refusal);
     }
-    if let Outcome::Refused(refusal) = text::judge(wire::part(s, bodies.agreement)) {
-        return Outcome::Refused(refusal);
+    if let Err(refusal) = text::judge(wire::part(s, bodies.agreement)) {
+        return Err(refusal);
     }
-    if let Outcome::Refused(refusal) = text::judge(wire::part(s, bodies.domain)) {
-        return Outcome::Refused(refusal);
+    if let Err(refusal) = text::judge(wire::part(s, bodies.domain)) {
+        return Err(refusal);
     }
     text::judge(wire::part(s, bodies.forest))
 }
@@ -380,7 +380,7 @@ pub fn write(
     ensures answer { result ≡ envelope_written head (given kdf.now kdf_parameters.now agreement.now agreement_parameters.now domain.now forest.now l1_key.now l2_key.now) (length out.old) }
     ensures output { out.new ≡ output_of result (envelope_bytes head (given kdf.now kdf_parameters.now agreement.now agreement_parameters.now domain.now forest.now l1_key.now l2_key.now)) out.old }
 {
-    if let Outcome::Refused(refusal) = judge_given(
+    if let Err(refusal) = judge_given(
         head,
         kdf,
         kdf_parameters,
@@ -391,7 +391,7 @@ pub fn write(
         l1_key,
         l2_key,
     ) {
-        return Written::Refused(refusal);
+        return Err(refusal);
     }
     let len = 80
         + kdf.len()
@@ -403,7 +403,7 @@ pub fn write(
         + l1_key.len()
         + l2_key.len();
     if out.len() < len {
-        return Written::Refused(Refusal::NoRoom);
+        return Err(Refusal::NoRoom);
     }
     put(
         out,
@@ -417,7 +417,7 @@ pub fn write(
         l1_key,
         l2_key,
     );
-    Written::Length(len)
+    Ok(len)
 }
 
 // What the reader would say of the bytes: of its refusals only 1, 5, 10, 24 and 11 can occur.
@@ -450,11 +450,11 @@ fn judge_given(
             l2_key.len(),
         )
     {
-        return Outcome::Refused(Refusal::TooLong);
+        return Err(Refusal::TooLong);
     }
     let at = head.at;
     if at.index_above_31() {
-        return Outcome::Refused(Refusal::IndexAbove31);
+        return Err(Refusal::IndexAbove31);
     }
     text::judge(kdf)
         .then(text::judge(agreement))

@@ -23,8 +23,8 @@ pub fn shown(line: Line, s: &[u8]) -> Line
     ensures { text_of result ≡ laid (text_of line) (line_words (envelope_of s.now)) }
 {
     match envelope::read(s) {
-        EnvelopeRead::Accepted(envelope) => accepted(line, envelope),
-        EnvelopeRead::Refused(refusal) => words::refused(line, refusal),
+        Ok(envelope) => accepted(line, envelope),
+        Err(refusal) => words::refused(line, refusal),
     }
 }
 

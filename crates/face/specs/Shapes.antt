@@ -1,10 +1,11 @@
 -- The shapes of the C face that several answers and arguments share.
 use Rattle.wire.specs.declared.Span.{Span}
+use Rattle.std.specs.Prelude.{Result}
+use Rattle.refusal.specs.declared.Refusal.{Refusal}
 use Rattle.gkid.specs.declared.Gkid.{Gkid}
 use Rattle.gkid.specs.Identifier as id
 use Rattle.rootid.specs.declared.RootId.{RootId}
 use Rattle.rootid.specs.Root.{root_at, root_bytes}
-use Rattle.records.specs.declared.Written.{Written}
 use Rattle.records.specs.Writing.{written_number, written_length}
 use Rattle.face.specs.declared.Part.{Part}
 use Rattle.face.specs.declared.Identifier.{Identifier}
@@ -36,5 +37,5 @@ root_id_from r = root_at r.bytes 0
 abbrev pub root_shown : RootId → RootBytes
 root_shown r = record { bytes = root_bytes r }
 
-unfoldable pub written_answer : Written → WrittenAnswer
+unfoldable pub written_answer : Result ℕ Refusal → WrittenAnswer
 written_answer w = record { refusal = written_number w; reserved = 0; len = written_length w }

@@ -96,12 +96,12 @@ pub fn to_written(answer: Written) -> WrittenAnswer
     ensures { result ≡ written_answer answer }
 {
     match answer {
-        Written::Length(len) => WrittenAnswer {
+        Ok(len) => WrittenAnswer {
             refusal: 0,
             reserved: 0,
             len,
         },
-        Written::Refused(refusal) => WrittenAnswer {
+        Err(refusal) => WrittenAnswer {
             refusal: refusal.number(),
             reserved: 0,
             len: 0,

@@ -1,13 +1,11 @@
 -- Document 01, "The GetKey decision", as C has its answer, and the request and the rights as C hands them in, and as C is shown
 -- them.
-use Rattle.std.specs.Prelude.{ℕ, cond, eqb, replicate}
-use Rattle.request.specs.declared.Root.{Root}
-use Rattle.request.specs.declared.Root.TheVariants as root
+use Rattle.std.specs.Prelude.{ℕ, cond, eqb, replicate, Result, Err, Option, Some, None}
+use Rattle.rootid.specs.declared.RootId.{RootId}
+use Rattle.refusal.specs.declared.Refusal.{Refusal}
 use Rattle.request.specs.declared.Request.{Request}
 use Rattle.getkey.specs.declared.Rights.{Rights}
 use Rattle.getkey.specs.declared.Rights.TheVariants as rights
-use Rattle.getkey.specs.declared.Answer.{Answer}
-use Rattle.getkey.specs.declared.Answer.TheVariants.{Granted, Create, Refused}
 use Rattle.getkey.specs.Deciding.{answer_number, answer_at, answer_form, answer_row}
 use Rattle.face.specs.declared.RootBytes.{RootBytes}
 use Rattle.face.specs.Codes.{form_code}
@@ -26,32 +24,32 @@ rights_code rights.Public = 1
 rights_code rights.Seed = 2
 
 -- 0 names no root key; every other value names one, as C has it
-abbrev pub root_from : ℕ → RootBytes → Root
-root_from given id = cond (eqb given 0) root.None (root.Given (root_id_from id))
+abbrev pub root_from : ℕ → RootBytes → Option RootId
+root_from given id = cond (eqb given 0) None (Some (root_id_from id))
 
 abbrev pub request_from : RequestIndices → Request
 request_from q = record { root = root_from q.root_given q.root; l0 = q.l0; l1 = q.l1; l2 = q.l2 }
 
 -- 1 where a root key is named
-unfoldable pub given_code : Root → ℕ
-given_code root.None = 0
-given_code (root.Given id) = 1
+unfoldable pub given_code : Option RootId → ℕ
+given_code None = 0
+given_code (Some id) = 1
 
 -- zeros where none is
-unfoldable pub root_bytes_shown : Root → RootBytes
-root_bytes_shown root.None = record { bytes = replicate 16 0 }
-root_bytes_shown (root.Given id) = root_shown id
+unfoldable pub root_bytes_shown : Option RootId → RootBytes
+root_bytes_shown None = record { bytes = replicate 16 0 }
+root_bytes_shown (Some id) = root_shown id
 
 abbrev pub request_shown : Request → RequestIndices
 request_shown q = record { root_given = given_code q.root; l0 = q.l0; l1 = q.l1; l2 = q.l2; root = root_bytes_shown q.root }
 
 -- 1 with a root row, 2 for a root key to create, 0 on a refusal
-unfoldable pub grant_code : Answer → ℕ
-grant_code (Granted at form row) = 1
-grant_code (Create at form) = 2
-grant_code (Refused r) = 0
+unfoldable pub grant_code : Result OkRow Refusal → ℕ
+grant_code (OkRow at form row) = 1
+grant_code (OkCreate at form) = 2
+grant_code (Err r) = 0
 
-unfoldable pub decision_answer : Answer → DecisionAnswer
+unfoldable pub decision_answer : Result OkRow Refusal → DecisionAnswer
 decision_answer a =
     record {
       refusal = answer_number a;

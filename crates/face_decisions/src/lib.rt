@@ -68,9 +68,9 @@ fn root_from(given: u32, id: RootBytes) -> Root
     ensures { result ≡ root_from given id }
 {
     if given == 0 {
-        return Root::None;
+        return None;
     }
-    Root::Given(to_root(id))
+    Some(to_root(id))
 }
 
 pub fn to_request(request: Request) -> RequestIndices
@@ -90,8 +90,8 @@ fn given_code(root: Root) -> u32
     ensures { result ≡ given_code root }
 {
     match root {
-        Root::None => 0,
-        Root::Given(_) => 1,
+        None => 0,
+        Some(_) => 1,
     }
 }
 
@@ -100,8 +100,8 @@ fn root_bytes(root: Root) -> RootBytes
     ensures { result ≡ root_bytes_shown root }
 {
     match root {
-        Root::None => RootBytes { bytes: [0; 16] },
-        Root::Given(id) => to_bytes(id),
+        None => RootBytes { bytes: [0; 16] },
+        Some(id) => to_bytes(id),
     }
 }
 
@@ -109,21 +109,21 @@ pub fn decision_answer(answer: Answer) -> DecisionAnswer
     ensures { result ≡ decision_answer answer }
 {
     match answer {
-        Answer::Granted { at, form, row } => DecisionAnswer {
+        OkRow { at, form, row } => DecisionAnswer {
             refusal: 0,
             granted: 1,
             form: form_code(form),
             at: to_identifier(at),
             row,
         },
-        Answer::Create { at, form } => DecisionAnswer {
+        OkCreate { at, form } => DecisionAnswer {
             refusal: 0,
             granted: 2,
             form: form_code(form),
             at: to_identifier(at),
             row: 0,
         },
-        Answer::Refused(refusal) => DecisionAnswer {
+        Err(refusal) => DecisionAnswer {
             refusal: refusal.number(),
             granted: 0,
             form: 0,

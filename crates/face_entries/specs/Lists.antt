@@ -1,10 +1,9 @@
 -- Document 01, "Key List Entry and list", as C has its answers: the list and its walk.
-use Rattle.std.specs.Prelude.{ℕ}
+use Rattle.std.specs.Prelude.{ℕ, Result, Ok, Option, None, Some}
+use Rattle.keylist.specs.declared.ListRefusal.{ListRefusal}
+use Rattle.keylist.specs.declared.Found.{Found}
 use Rattle.keyentry.specs.Reading.{algorithm_of}
-use Rattle.keylist.specs.declared.ListRead.{ListRead}
 use Rattle.keylist.specs.declared.Place.{Place}
-use Rattle.keylist.specs.declared.Step.{Step}
-use Rattle.keylist.specs.declared.Step.TheVariants.{Entry, End, Refused}
 use Rattle.keylist.specs.declared.Advance.{Advance}
 use Rattle.keylist.specs.Reading.{list_number, list_count, list_index}
 use Rattle.keylist.specs.Stepping.{step_number, step_index, step_found}
@@ -13,20 +12,20 @@ use Rattle.face_entries.specs.declared.ListAnswer.{ListAnswer}
 use Rattle.face_entries.specs.declared.StepAnswer.{StepAnswer}
 use Rattle.face_entries.specs.Entries.{algorithm_code}
 
-unfoldable pub list_answer : ListRead → ListAnswer
+unfoldable pub list_answer : Result ℕ ListRefusal → ListAnswer
 list_answer r = record { refusal = list_number r; count = list_count r; index = list_index r }
 
 -- what a step finds: 0 on a refusal
-unfoldable pub found_code : Step → ℕ
-found_code (Entry found) = 1
-found_code End = 2
-found_code (Refused r index) = 0
+unfoldable pub found_code : Result (Option Found) ListRefusal → ℕ
+found_code (Ok (Some found)) = 1
+found_code (Ok None) = 2
+found_code (ErrAt r index) = 0
 
 -- 0 where no entry is shown
-unfoldable pub step_algorithm : Step → ℕ
-step_algorithm (Entry found) = algorithm_code (algorithm_of found.entry.flags)
-step_algorithm End = 0
-step_algorithm (Refused r index) = 0
+unfoldable pub step_algorithm : Result (Option Found) ListRefusal → ℕ
+step_algorithm (Ok (Some found)) = algorithm_code (algorithm_of found.entry.flags)
+step_algorithm (Ok None) = 0
+step_algorithm (ErrAt r index) = 0
 
 -- what a step shows, and the place after it: at the end and on a refusal that is the place asked at
 unfoldable pub step_answer : Advance → StepAnswer

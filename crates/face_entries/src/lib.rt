@@ -81,12 +81,12 @@ pub fn list_answer(read: ListRead) -> ListAnswer
     ensures { result ≡ list_answer read }
 {
     match read {
-        ListRead::Count(count) => ListAnswer {
+        Ok(count) => ListAnswer {
             refusal: 0,
             count,
             index: 0,
         },
-        ListRead::Refused(refusal, index) => ListAnswer {
+        ErrAt(refusal, index) => ListAnswer {
             refusal: refusal.number(),
             count: 0,
             index,
@@ -100,7 +100,7 @@ pub fn step_answer(advance: Advance) -> StepAnswer
     let step = advance.step;
     let next = advance.place;
     match step {
-        Step::Entry(found) => {
+        Ok(Some(found)) => {
             let entry = found.entry;
             StepAnswer {
                 refusal: 0,
@@ -115,8 +115,8 @@ pub fn step_answer(advance: Advance) -> StepAnswer
                 fek: to_part(entry.fek),
             }
         }
-        Step::End => no_entry(0, 2, 0, next),
-        Step::Refused(refusal, told) => no_entry(refusal.number(), 0, told, next),
+        Ok(None) => no_entry(0, 2, 0, next),
+        ErrAt(refusal, told) => no_entry(refusal.number(), 0, told, next),
     }
 }
 

@@ -1,7 +1,9 @@
 -- Document 01, "Group Key Envelope", as C has its answer, and the head as C hands it in.
 use Rattle.envelope.specs.declared.Head.{Head}
+use Rattle.std.specs.Prelude.{Result}
+use Rattle.refusal.specs.declared.Refusal.{Refusal}
+use Rattle.envelope.specs.declared.Envelope.{Envelope}
 use Rattle.envelope.specs.declared.Bodies.{Bodies}
-use Rattle.envelope.specs.declared.EnvelopeRead.{EnvelopeRead}
 use Rattle.envelope.specs.Layout.{is_public}
 use Rattle.envelope.specs.Reading.{envelope_number, envelope_values, form_of}
 use Rattle.face.specs.Codes.{form_code, bool_code}
@@ -45,7 +47,7 @@ bodies_shown b =
       l2_key = part_shown b.l2_key;
     }
 
-unfoldable pub envelope_answer : EnvelopeRead → EnvelopeAnswer
+unfoldable pub envelope_answer : Result Envelope Refusal → EnvelopeAnswer
 envelope_answer r =
     record {
       refusal = envelope_number r;

@@ -1,15 +1,15 @@
 -- Document 02, No. 1, as C has its answers: a data segment's header, and the size of one of its blocks; and the numbers as C hands
 -- them in.
-use Rattle.std.specs.Prelude.{ℕ}
+use Rattle.std.specs.Prelude.{ℕ, Result, Option}
+use Rattle.segment.specs.declared.Segment.{Segment}
+use Rattle.refusal.specs.declared.Refusal.{Refusal}
 use Rattle.segment.specs.declared.Head.{Head}
-use Rattle.segment.specs.declared.SegmentRead.{SegmentRead}
-use Rattle.segment.specs.declared.SizeRead.{SizeRead}
 use Rattle.segment.specs.Reading.{segment_number, segment_values, size_number, size_found, size_value}
 use Rattle.face.specs.Shapes.{part_shown}
 use Rattle.face_segments.specs.declared.SegmentAnswer.{SegmentAnswer}
 use Rattle.face_segments.specs.declared.SizeAnswer.{SizeAnswer}
 
-unfoldable pub segment_answer : SegmentRead → SegmentAnswer
+unfoldable pub segment_answer : Result Segment Refusal → SegmentAnswer
 segment_answer r =
     record {
       refusal = segment_number r;
@@ -26,7 +26,7 @@ segment_answer r =
       sizes = part_shown (segment_values r).sizes;
     }
 
-unfoldable pub size_answer : SizeRead → SizeAnswer
+unfoldable pub size_answer : Result (Option ℕ) Refusal → SizeAnswer
 size_answer r = record { refusal = size_number r; found = size_found r; size = size_value r }
 
 -- the numbers that the writer takes, in the order of its arguments

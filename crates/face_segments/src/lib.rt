@@ -83,17 +83,17 @@ pub fn size_answer(size: SizeRead) -> SizeAnswer
     ensures { result ≡ size_answer size }
 {
     match size {
-        SizeRead::Size(bytes) => SizeAnswer {
+        Ok(Some(bytes)) => SizeAnswer {
             refusal: 0,
             found: 1,
             size: bytes,
         },
-        SizeRead::None => SizeAnswer {
+        Ok(None) => SizeAnswer {
             refusal: 0,
             found: 0,
             size: 0,
         },
-        SizeRead::Refused(refusal) => SizeAnswer {
+        Err(refusal) => SizeAnswer {
             refusal: refusal.number(),
             found: 0,
             size: 0,

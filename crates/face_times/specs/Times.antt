@@ -1,7 +1,8 @@
 -- Document 01, "Time and identifiers", as C has its answers.
 use Rattle.gkid.specs.declared.Gkid.{Gkid}
-use Rattle.gkid.specs.declared.Start.{Start}
-use Rattle.gkid.specs.declared.Older.{Older}
+use Rattle.std.specs.Prelude.{Result, Option}
+use Rattle.refusal.specs.declared.Refusal.{Refusal}
+use Rattle.gkid.specs.declared.FileTime.{FileTime}
 use Rattle.gkid.specs.Start.{start_number, start_shown}
 use Rattle.gkid.specs.Older.{older_number, older_found, older_shown}
 use Rattle.face.specs.Codes.{bool_code}
@@ -13,8 +14,8 @@ use Rattle.face_times.specs.declared.StartAnswer.{StartAnswer}
 abbrev pub present_answer : Gkid → IdentifierAnswer
 present_answer i = record { refusal = 0; found = 1; at = identifier_shown i }
 
-unfoldable pub start_answer : Start → StartAnswer
+unfoldable pub start_answer : Result FileTime Refusal → StartAnswer
 start_answer s = record { refusal = start_number s; reserved = 0; time = start_shown s }
 
-unfoldable pub older_answer : Older → IdentifierAnswer
+unfoldable pub older_answer : Result (Option Gkid) Refusal → IdentifierAnswer
 older_answer o = record { refusal = older_number o; found = bool_code (older_found o); at = identifier_shown (older_shown o) }

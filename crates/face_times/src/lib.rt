@@ -43,12 +43,12 @@ pub fn start_answer(start: Start) -> StartAnswer
     ensures { result ≡ start_answer start }
 {
     match start {
-        Start::At(time) => StartAnswer {
+        Ok(time) => StartAnswer {
             refusal: 0,
             reserved: 0,
             time: time.0,
         },
-        Start::Refused(refusal) => StartAnswer {
+        Err(refusal) => StartAnswer {
             refusal: refusal.number(),
             reserved: 0,
             time: 0,

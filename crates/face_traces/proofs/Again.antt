@@ -1,16 +1,16 @@
 -- Document 02, No. 7: what C is shown of a replay and hands in again is where the replay stands.
 use Rattle.lemmas.proofs.Basics.{◌≡◌, refl}
-use Rattle.tally.specs.declared.Clocks.{Clocks}
-use Rattle.tally.specs.declared.Clocks.TheVariants.{None, Between}
+use Rattle.std.specs.Prelude.{Option, None}
+use Rattle.tally.specs.declared.Ends.{Ends}
 use Rattle.tally.specs.declared.Tally.{Tally}
 use Rattle.report.specs.declared.State.{State}
 use Rattle.face_traces.specs.Totals.{clocks_from, clocks_code, first_clock, last_clock, tally_from, tally_shown}
 use Rattle.face_traces.specs.Replays.{state_from, state_shown}
 
-clocks_again : (cs : Clocks) → clocks_from (clocks_code cs) (first_clock cs) (last_clock cs) ≡ cs
+clocks_again : (cs : Option Ends) → clocks_from (clocks_code cs) (first_clock cs) (last_clock cs) ≡ cs
 unfolding clocks_code first_clock last_clock
 clocks_again None = refl
-clocks_again (Between first last) = refl
+clocks_again (SomeEnds first last) = refl
 
 pub tally_again : (t : Tally) → tally_from (tally_shown t) ≡ t
 unfolding tally_shown

@@ -1,8 +1,7 @@
 -- Document 02, No. 7, as C has its answers: where a replay stands, as C hands it in and is shown it, one record replayed, and a chunk.
-use Rattle.std.specs.Prelude.{ℕ}
-use Rattle.report.specs.declared.State.{State}
+use Rattle.std.specs.Prelude.{ℕ, Option, None}
 use Rattle.report.specs.declared.Stepped.{Stepped}
-use Rattle.report.specs.declared.Stepped.TheVariants as step
+use Rattle.report.specs.declared.State.{State}
 use Rattle.report.specs.declared.Stopped.{Stopped}
 use Rattle.report.specs.declared.Stopped.TheVariants.{Records, Room, Full}
 use Rattle.report.specs.declared.Progress.{Progress}
@@ -25,9 +24,9 @@ abbrev pub no_decision : DecisionAnswer
 no_decision = record { refusal = 0; granted = 0; form = 0; at = no_identifier; row = 0 }
 
 -- the answer, its number and the next state; where a count does not fit, number 0 and the state asked with
-unfoldable pub line_answer : State → Stepped → ReplayLine
-line_answer st (step.Line number answer next) = record { answer = decision_answer answer; number = number; state = state_shown next }
-line_answer st step.Full = record { answer = no_decision; number = 0; state = state_shown st }
+unfoldable pub line_answer : State → Option Stepped → ReplayLine
+line_answer st (SomeLine number answer next) = record { answer = decision_answer answer; number = number; state = state_shown next }
+line_answer st None = record { answer = no_decision; number = 0; state = state_shown st }
 
 unfoldable pub stopped_code : Stopped → ℕ
 stopped_code Records = 1

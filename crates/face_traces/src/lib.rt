@@ -130,12 +130,12 @@ fn clocks_from(code: u32, first: u64, last: u64) -> Clocks
     ensures { result ≡ clocks_from code first last }
 {
     if code == 1 {
-        return Clocks::Between {
+        return SomeEnds {
             first: FileTime(first),
             last: FileTime(last),
         };
     }
-    Clocks::None
+    None
 }
 
 pub fn to_tally(tally: Tally) -> TallyNumbers
@@ -143,8 +143,8 @@ pub fn to_tally(tally: Tally) -> TallyNumbers
 {
     let clocks = tally.clocks;
     match clocks {
-        Clocks::None => numbers(tally, 0, 0, 0),
-        Clocks::Between { first, last } => numbers(tally, 1, first.0, last.0),
+        None => numbers(tally, 0, 0, 0),
+        SomeEnds { first, last } => numbers(tally, 1, first.0, last.0),
     }
 }
 
@@ -187,7 +187,7 @@ pub fn line_answer(state: State, stepped: Stepped) -> ReplayLine
     ensures { result ≡ line_answer state stepped }
 {
     match stepped {
-        Stepped::Line {
+        SomeLine {
             number,
             answer,
             state: next,
@@ -196,7 +196,7 @@ pub fn line_answer(state: State, stepped: Stepped) -> ReplayLine
             number,
             state: to_state(next),
         },
-        Stepped::Full => ReplayLine {
+        None => ReplayLine {
             answer: DecisionAnswer {
                 refusal: 0,
                 granted: 0,
@@ -242,12 +242,12 @@ pub fn merge_answer(merged: Merged) -> MergeAnswer
     ensures { result ≡ merge_answer merged }
 {
     match merged {
-        Merged::Total(total) => MergeAnswer {
+        Some(total) => MergeAnswer {
             full: 0,
             reserved: 0,
             tally: to_tally(total),
         },
-        Merged::Full => MergeAnswer {
+        None => MergeAnswer {
             full: 1,
             reserved: 0,
             tally: TallyNumbers {

@@ -1,6 +1,7 @@
 -- Laws of the decision: what an accepted answer shows, and what its request asks for.
 use Rattle.lemmas.proofs.Basics.{ℕ, ◌^◌, ◌<◌, Bool, true, false, cond, not, List, [], ◌∷◌, ◌≡◌, refl, sym, ◌∙◌, length, take}
-use Rattle.refusal.specs.declared.Outcome.TheVariants as outcome
+use Rattle.std.specs.Prelude.{Result, Ok, Err, Option}
+use Rattle.rootid.specs.declared.RootId.{RootId}
 use Rattle.refusal.specs.declared.Refusal.{Refusal}
 use Rattle.refusal.specs.declared.Refusal.TheVariants.{TableLength}
 use Rattle.refusal.specs.Chain.{◌⇒◌, first_of, unless_refused}
@@ -12,15 +13,8 @@ use Rattle.gkid.proofs.Times.{up_to_now}
 use Rattle.keys.specs.declared.Form.{Form}
 use Rattle.getkey.specs.declared.Rights.{Rights}
 use Rattle.request.specs.declared.Request.{Request}
-use Rattle.request.specs.declared.Root.{Root}
-use Rattle.request.specs.declared.Asked.{Asked}
-use Rattle.request.specs.declared.Narrowing.{Narrowing}
-use Rattle.request.specs.declared.Narrowing.TheVariants as narrowing
-use Rattle.getkey.specs.declared.Answer.TheVariants.{Refused}
 use Rattle.request.specs.Indices.{out_of_range, mixed, later_than_now, names, named_of}
 use Rattle.request.specs.Narrowed.{narrowed_of}
-use Rattle.roottable.specs.declared.Found.{Found}
-use Rattle.roottable.specs.declared.Found.TheVariants as found
 use Rattle.roottable.specs.Rows.{table_wrong}
 use Rattle.roottable.specs.Selection.{chosen_row}
 use Rattle.getkey.specs.Deciding.{rights_too_low, checks, with_row, granting, decision_by_verdict, Starts, answer_number}
@@ -35,15 +29,15 @@ pub record Passed (verdict : Bool) (rights : Rights) (q : Request) (present : Gk
   pub not-later : later_than_now q present ≡ false
   pub allowed : rights_too_low rights (names q) ≡ false
 
-pub passed : (verdict : Bool) (rights : Rights) (q : Request) (present : Gkid) (len : ℕ) → first_of (take 5 (checks verdict rights q present len)) ≡ outcome.Accepted
+pub passed : (verdict : Bool) (rights : Rights) (q : Request) (present : Gkid) (len : ℕ) → first_of (take 5 (checks verdict rights q present len)) ≡ Ok tt
     → Passed verdict rights q present
 unfolding checks
 passed verdict rights q present len e = let p = accepted_pass _ e in search p
 
 -- 64 bits hold the start of what is named.
-abbrev pub Begins : Narrowing → Type 0
-Begins (narrowing.Asks asked) = Starts asked
-Begins (narrowing.Refused r) = Unit {0}
+abbrev pub Begins : Result (Option Gkid) Refusal → Type 0
+Begins (Ok asked) = Starts asked
+Begins (Err r) = Unit {0}
 
 pub begins : {verdict : Bool} {rights : Rights} (q : Request) (t : FileTime) → t.0 < 2 ^ 64 → Passed verdict rights q (gkid_at t) → Begins (narrowed_of q)
 begins q t h p = rw (narrowed_asks q p.ranged p.unmixed) (of (asks q p.ranged p.unmixed))
@@ -54,13 +48,13 @@ begins q t h p = rw (narrowed_asks q p.ranged p.unmixed) (of (asks q p.ranged p.
 
 -- A refusal of the checks before 20 is the decision's.
 pub refused_decided : (verdict : Bool) (rights : Rights) (q : Request) (t : FileTime) (table : List ℕ) {r : Refusal}
-    → first_of (take 5 (checks verdict rights q (gkid_at t) (length table))) ≡ outcome.Refused r → decision_by_verdict verdict rights q t table ≡ Refused r
+    → first_of (take 5 (checks verdict rights q (gkid_at t) (length table))) ≡ Err r → decision_by_verdict verdict rights q t table ≡ Err r
 unfolding decision_by_verdict checks unless_refused
 refused_decided verdict rights q t table e = rw (first_append (take 5 (checks verdict rights q (gkid_at t) (length table))) ((table_wrong (length table) ⇒ TableLength) ∷ []), e)
 
 -- of a wrong table the search for a row answers 20, as the last check does
-table_told : (wrong : Bool) (f : Found) (root : Root) (asked : Asked) (at : Gkid) (form : Form) → let found = with_row (cond wrong (found.Refused TableLength) f) root asked at form in
-    unless_refused Refused (cond wrong (outcome.Refused TableLength) outcome.Accepted) found ≡ found
+table_told : (wrong : Bool) (f : Result (Option ℕ) Refusal) (root : Option RootId) (asked : Option Gkid) (at : Gkid) (form : Form) → let found = with_row (cond wrong (Err TableLength) f) root asked at form in
+    unless_refused Err (cond wrong (Err TableLength) (Ok tt)) found ≡ found
 unfolding with_row unless_refused
 table_told true f root asked at form = refl
 table_told false f root asked at form = refl
@@ -74,7 +68,7 @@ passed_granting verdict rights q t table p =
 
 pub record Decided (verdict : Bool) (rights : Rights) (q : Request) (t : FileTime) (table : List ℕ) : Type 0 where
   pub checked : Passed verdict rights q (gkid_at t)
-  pub is : decision_by_verdict verdict rights q t table ≡ granting rights q.root (narrowing.Asks (asked_of q)) (gkid_at t) table
+  pub is : decision_by_verdict verdict rights q t table ≡ granting rights q.root (Ok (asked_of q)) (gkid_at t) table
 
 pub passed_decided : (verdict : Bool) (rights : Rights) (q : Request) (t : FileTime) (table : List ℕ) → Passed verdict rights q (gkid_at t)
     → Decided verdict rights q t table
@@ -85,5 +79,5 @@ pub accepted_decided : (verdict : Bool) (rights : Rights) (q : Request) (t : Fil
     → Decided verdict rights q t table
 unfolding decision_by_verdict checks answer_number
 accepted_decided verdict rights q t table e =
-    let all = (unless_zero answer_number Refused (λ r. refl) _ _ e).0 in
+    let all = (unless_zero answer_number Err (λ r. refl) _ _ e).0 in
     passed_decided verdict rights q t table (passed verdict rights q (gkid_at t) (length table) (append-accepted (take 5 (checks verdict rights q (gkid_at t) (length table))) _ all).0)

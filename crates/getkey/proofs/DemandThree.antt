@@ -1,6 +1,9 @@
 -- Demand 3, waiting loses nothing, by one theorem. One descriptor, or one verdict on it, one request and one root table are put to the decision
 -- twice, the second time with a clock reading no lower and with rights no lower. Nothing else is assumed.
 use Rattle.lemmas.proofs.Basics.{ℕ, ◌≤◌, arith, Bool, true, false, true≢false, not, ◌&&◌, List, ◌≡◌, refl, sym, ◌∙◌, not-true}
+use Rattle.std.specs.Prelude.{Result, Ok, Err, Option, Some, None}
+use Rattle.rootid.specs.declared.RootId.{RootId}
+use Rattle.refusal.specs.declared.Refusal.{Refusal}
 use Rattle.refusal.specs.declared.Refusal.TheVariants.{NoRootKey}
 use Rattle.refusal.specs.Number.{outcome_number}
 use Rattle.lemmas.proofs.Cases.{both_true}
@@ -20,13 +23,7 @@ use Rattle.reach.proofs.ReachLaws.{is_group}
 use Rattle.reach.proofs.SeedLaws.{seed_accepted, seed_bits, seed_total}
 use Rattle.getkey.specs.declared.Rights.{Rights}
 use Rattle.getkey.specs.declared.Rights.TheVariants as rights
-use Rattle.request.specs.declared.Root.{Root}
-use Rattle.request.specs.declared.Root.TheVariants as root
 use Rattle.request.specs.declared.Request.{Request}
-use Rattle.request.specs.declared.Asked.{Asked}
-use Rattle.request.specs.declared.Asked.TheVariants.{Latest, Named}
-use Rattle.roottable.specs.declared.Found.{Found}
-use Rattle.roottable.specs.declared.Found.TheVariants as found
 use Rattle.request.specs.Indices.{later_than_now, names, named_of}
 use Rattle.getkey.specs.Deciding.{rights_too_low, granted_at, form_for, without_row, with_row, granting, decision, decision_by_verdict, answer_number, answer_at, answer_form, answer_row, answer_creates}
 use Rattle.getkey.specs.Waiting.{height, NoLower, Asking, Accepted, NoWorse, reached_by, ReachesUpTo, by_descriptor, by_verdict, LosesNothing}
@@ -35,24 +32,24 @@ use Rattle.getkey.proofs.Decisions.{passed_decided, accepted_decided}
 use Rattle.getkey.proofs.Granted.{Group, granted_group, granted_later}
 
 -- the same row or none: the same answer but for identifier and form
-with_row_lem : (f : Found) (root : Root) (asked : Asked) (at at' : Gkid) (form form' : Form) → later at at' ≡ false → Accepted (with_row f root asked at form)
+with_row_lem : (f : Result (Option ℕ) Refusal) (root : Option RootId) (asked : Option Gkid) (at at' : Gkid) (form form' : Form) → later at at' ≡ false → Accepted (with_row f root asked at form)
     → NoWorse (with_row f root asked at form) (with_row f root asked at' form')
 unfolding with_row without_row answer_number answer_row answer_creates answer_at
-with_row_lem (found.Row k) root asked at at' form form' l e = record { accepted = refl; row = refl; create = refl; not_earlier = l }
-with_row_lem (found.Refused r) root asked at at' form form' l e = absurd (number_not-zero r e)
-with_row_lem found.None root.None Latest at at' form form' l e = record { accepted = refl; row = refl; create = refl; not_earlier = l }
-with_row_lem found.None root.None (Named i) at at' form form' l e = absurd (number_not-zero NoRootKey e)
-with_row_lem found.None (root.Given id) asked at at' form form' l e = absurd (number_not-zero NoRootKey e)
+with_row_lem (Ok (Some k)) root asked at at' form form' l e = record { accepted = refl; row = refl; create = refl; not_earlier = l }
+with_row_lem (Err r) root asked at at' form form' l e = absurd (number_not-zero r e)
+with_row_lem (Ok None) None None at at' form form' l e = record { accepted = refl; row = refl; create = refl; not_earlier = l }
+with_row_lem (Ok None) None (Some i) at at' form form' l e = absurd (number_not-zero NoRootKey e)
+with_row_lem (Ok None) (Some id) asked at at' form form' l e = absurd (number_not-zero NoRootKey e)
 
 -- what an accepted answer shows
-shows : (f : Found) (root : Root) (asked : Asked) (at : Gkid) (form : Form) → Accepted (with_row f root asked at form)
+shows : (f : Result (Option ℕ) Refusal) (root : Option RootId) (asked : Option Gkid) (at : Gkid) (form : Form) → Accepted (with_row f root asked at form)
     → (answer_at (with_row f root asked at form) ≡ at) × (answer_form (with_row f root asked at form) ≡ form)
 unfolding with_row without_row answer_number answer_at answer_form
-shows (found.Row k) root asked at form e = (refl, refl)
-shows (found.Refused r) root asked at form e = absurd (number_not-zero r e)
-shows found.None root.None Latest at form e = (refl, refl)
-shows found.None root.None (Named i) at form e = absurd (number_not-zero NoRootKey e)
-shows found.None (root.Given id) asked at form e = absurd (number_not-zero NoRootKey e)
+shows (Ok (Some k)) root asked at form e = (refl, refl)
+shows (Err r) root asked at form e = absurd (number_not-zero r e)
+shows (Ok None) None None at form e = (refl, refl)
+shows (Ok None) None (Some i) at form e = absurd (number_not-zero NoRootKey e)
+shows (Ok None) (Some id) asked at form e = absurd (number_not-zero NoRootKey e)
 
 no_lower : (r r' : Rights) (n : Bool) → NoLower r r' → rights_too_low r n ≡ false → rights_too_low r' n ≡ false
 unfolding height rights_too_low
@@ -106,12 +103,12 @@ module _ (verdict : Bool) (q : Request) (table : List ℕ) where
       let d = accepted_decided verdict r q t table e in
       let p = d.checked in
       let i = named_of q in
-      let at = granted_at (Named i) q.root (gkid_at t) in
+      let at = granted_at (Some i) q.root (gkid_at t) in
       let allowed : rights_too_low r true ≡ false = rw one at p.allowed in
-      let s = shows _ q.root (Named i) at (form_for r at) (rw (d.is, one) at e) in
+      let s = shows _ q.root (Some i) at (form_for r at) (rw (d.is, one) at e) in
       rw (d.is, one, s.0, s.1, seed_only r at allowed) (of (asks q p.ranged p.unmixed) p.not-later, refl)
     where
-      of : Asks q → later_than_now q (gkid_at t) ≡ false → Group (named_of q) (granted_at (Named (named_of q)) q.root (gkid_at t))
+      of : Asks q → later_than_now q (gkid_at t) ≡ false → Group (named_of q) (granted_at (Some (named_of q)) q.root (gkid_at t))
       of (latest none l) not-later = absurd (true≢false (sym one ∙ none))
       of (named _ g l) not-later = granted_group q.root (named_of q) (gkid_at t) g (reading_in_group t) (sym (l (gkid_at t)) ∙ not-later)
 

@@ -1,6 +1,9 @@
 -- Document 01, "Bench cases": the T cases on times, start times and the decision, in one table, with the least sound descriptor and by verdict; an
 -- accepted answer of each kind of request; and demand 3 on one of them.
 use Rattle.lemmas.proofs.Basics.{ℕ, ◌+◌, arith, Bool, true, false, List, [], ◌∷◌, ◌++◌, map, ◌≡◌, refl, ap, replicate}
+use Rattle.std.specs.Prelude.{Result, Option, Some, None}
+use Rattle.refusal.specs.declared.Refusal.{Refusal}
+use Rattle.getkey.specs.declared.Granted.{Granted}
 use lib.IntN.{ℤ, pos, negsuc}
 use Rattle.refusal.specs.Number.{number_of}
 use Rattle.refusal.specs.Chain.{first_of, unless_refused}
@@ -26,10 +29,7 @@ use Rattle.reach.specs.Maps.{row_of, map_of, empty_map, total_of}
 use Rattle.reach.specs.Reaches.{keys_reach, refused_reach, form_reach, reach_total}
 use Rattle.getkey.specs.declared.Rights.{Rights}
 use Rattle.getkey.specs.declared.Rights.TheVariants.{Public, Seed}
-use Rattle.request.specs.declared.Root.{Root}
-use Rattle.request.specs.declared.Root.TheVariants as root
 use Rattle.request.specs.declared.Request.{Request}
-use Rattle.getkey.specs.declared.Answer.{Answer}
 use Rattle.request.specs.Indices.{below, outside, out_of_range, unset, mixed, later_then_z, later_than_now, names, index_checks, natural, named_of}
 use Rattle.request.specs.Narrowed.{narrowed_of}
 use Rattle.roottable.specs.Rows.{table_wrong, row_at, suitable, rank}
@@ -52,7 +52,7 @@ rows = root_bytes id ++ (be_bytes 8 3 ++ be_bytes 8 4)
 unfoldable pub least : List ℕ
 least = 1 ∷ 0 ∷ 0 ∷ 128 ∷ replicate 16 0
 
-unfoldable pub asking : Root → ℤ → ℤ → ℤ → Request
+unfoldable pub asking : Option RootId → ℤ → ℤ → ℤ → Request
 asking root l0 l1 l2 = record { root = root; l0 = l0; l1 = l1; l2 = l2 }
 
 -- a reading's identifier; a start time's number, 0 where accepted, with the time; a decision's number, identifier and form, with how many
@@ -67,10 +67,10 @@ pub data Question : Type 0 where
   start : Gkid → Question
   ask : Request → Question
 
-unfoldable pub shown_of : Answer → Shown
+unfoldable pub shown_of : Result Granted Refusal → Shown
 shown_of a = decided (answer_number a) (answer_at a) (answer_form a) (reach_total (form_reach (answer_form a) (answer_at a)))
 
-unfoldable pub reply : (Request → Answer) → Question → Shown
+unfoldable pub reply : (Request → Result Granted Refusal) → Question → Shown
 reply by (time t) = identifier (gkid_at (record { 0 = t }))
 reply by (start i) = began (start_number (start_of i)) (start_shown (start_of i))
 reply by (ask q) = shown_of (by q)
@@ -89,15 +89,15 @@ cases =
     ∷ (start (gkid 50039 31 27), began 0 18446743800000000000)
     ∷ (start (gkid 50039 31 28), began 21 0)
     ∷ (time 1880280000000000, identifier (gkid 5 3 7))
-    ∷ (ask (asking (root.Given id) (pos 5) (pos 0) (pos 0)), decided 0 (gkid 5 3 7) form.Both 104)
-    ∷ (ask (asking (root.Given id) (pos 4) (pos 2) (pos 2)), decided 0 (gkid 4 31 31) form.L1Only 1024)
-    ∷ (ask (asking root.None (pos 4) (pos 0) (pos 2)), decided 0 (gkid 4 0 2) form.L2Only 3)
-    ∷ (ask (asking root.None (pos 5) (pos 3) (pos 8)), refused 17)
-    ∷ (ask (asking root.None (pos 0) (negsuc 0) (pos 0)), refused 15)
+    ∷ (ask (asking (Some id) (pos 5) (pos 0) (pos 0)), decided 0 (gkid 5 3 7) form.Both 104)
+    ∷ (ask (asking (Some id) (pos 4) (pos 2) (pos 2)), decided 0 (gkid 4 31 31) form.L1Only 1024)
+    ∷ (ask (asking None (pos 4) (pos 0) (pos 2)), decided 0 (gkid 4 0 2) form.L2Only 3)
+    ∷ (ask (asking None (pos 5) (pos 3) (pos 8)), refused 17)
+    ∷ (ask (asking None (pos 0) (negsuc 0) (pos 0)), refused 15)
     ∷ []
 
 -- seed rights and a suitable root
-unfoldable pub answered_by : (Rights → Request → FileTime → List ℕ → Answer) → List Shown
+unfoldable pub answered_by : (Rights → Request → FileTime → List ℕ → Result Granted Refusal) → List Shown
 answered_by by = map (λ c. reply (λ q. by Seed q clock rows) c.0) cases
 
 -- Each is answered as the table says.
@@ -113,9 +113,9 @@ pub record Kind : Type 0 where
   pub number : ℕ
   pub create : Bool
 
-unfoldable pub given : Root → Bool
-given root.None = false
-given (root.Given id) = true
+unfoldable pub given : Option RootId → Bool
+given None = false
+given (Some id) = true
 
 unfoldable pub kind_of : Rights → Request → List ℕ → Kind
 kind_of rights q t =
@@ -124,19 +124,19 @@ kind_of rights q t =
 abbrev pub accepted : Bool → Bool → Bool → Kind
 accepted given naming create = record { given = given; naming = naming; number = 0; create = create }
 
-unfoldable pub latest : Root → Request
+unfoldable pub latest : Option RootId → Request
 latest root = asking root (negsuc 0) (negsuc 0) (negsuc 0)
 
 unfoldable pub kinds : List ((Rights × (Request × List ℕ)) × Kind)
 kinds =
-    ((Public, (latest root.None, rows)), accepted false false false)
-    ∷ ((Public, (latest (root.Given id), rows)), accepted true false false)
-    ∷ ((Public, (latest root.None, [])), accepted false false true)
-    ∷ ((Seed, (latest root.None, rows)), accepted false false false)
-    ∷ ((Seed, (latest (root.Given id), rows)), accepted true false false)
-    ∷ ((Seed, (latest root.None, [])), accepted false false true)
-    ∷ ((Seed, (asking root.None (pos 4) (pos 0) (pos 2), rows)), accepted false true false)
-    ∷ ((Seed, (asking (root.Given id) (pos 5) (pos 0) (pos 0), rows)), accepted true true false)
+    ((Public, (latest None, rows)), accepted false false false)
+    ∷ ((Public, (latest (Some id), rows)), accepted true false false)
+    ∷ ((Public, (latest None, [])), accepted false false true)
+    ∷ ((Seed, (latest None, rows)), accepted false false false)
+    ∷ ((Seed, (latest (Some id), rows)), accepted true false false)
+    ∷ ((Seed, (latest None, [])), accepted false false true)
+    ∷ ((Seed, (asking None (pos 4) (pos 0) (pos 2), rows)), accepted false true false)
+    ∷ ((Seed, (asking (Some id) (pos 5) (pos 0) (pos 0), rows)), accepted true true false)
     ∷ []
 
 pub each_kind_accepted : map (λ k. kind_of k.0.0 k.0.1.0 k.0.1.1) kinds ≡ map (λ k. k.1) kinds
@@ -148,8 +148,8 @@ number_first [] = 1
 number_first (k ∷ ks) = k.number
 
 -- Demand 3 on the first of them, asked again an L0 step later with seed rights.
-pub public_then_seed : NoWorse (decision least Public (latest root.None) clock rows) (decision least Seed (latest root.None) (record { 0 = clock.0 + l0_step }) rows)
+pub public_then_seed : NoWorse (decision least Public (latest None) clock rows) (decision least Seed (latest None) (record { 0 = clock.0 + l0_step }) rows)
 unfolding height kinds kind_of number_first
 public_then_seed =
-    (waiting_loses_nothing least (latest root.None) rows (record { clock = clock; rights = Public }) (record { clock = record { 0 = clock.0 + l0_step }; rights = Seed }) (omega arith) (omega arith)).again
+    (waiting_loses_nothing least (latest None) rows (record { clock = clock; rights = Public }) (record { clock = record { 0 = clock.0 + l0_step }; rights = Seed }) (omega arith) (omega arith)).again
     (ap number_first each_kind_accepted)

@@ -1,5 +1,7 @@
 -- Document 01, "The GetKey decision", by the verdict on a security descriptor, and by the descriptor's bytes (document 02, No. 5).
-use Rattle.std.specs.Prelude.{ℕ, ◌<◌, ◌^◌, Bool, true, false, cond, not, List, [], ◌∷◌, ltb, length}
+use Rattle.std.specs.Prelude.{ℕ, ◌<◌, ◌^◌, Bool, true, false, cond, not, List, [], ◌∷◌, ltb, length, Result, Ok, Err, Option, Some, None}
+use Rattle.rootid.specs.declared.RootId.{RootId}
+use Rattle.refusal.specs.declared.Refusal.{Refusal}
 use Rattle.refusal.specs.declared.Refusal.TheVariants.{VerdictNo, IndexOutOfRange, MixedIndices, LaterThanNow, RightsTooLow, TableLength, NoRootKey}
 use Rattle.refusal.specs.Chain.{Check, ◌⇒◌, first_of, unless_refused}
 use Rattle.refusal.specs.Number.{number_of}
@@ -14,19 +16,9 @@ use Rattle.keys.specs.declared.Form.TheVariants as form
 use Rattle.keys.specs.Forms.{seed_form}
 use Rattle.getkey.specs.declared.Rights.{Rights}
 use Rattle.getkey.specs.declared.Rights.TheVariants as rights
-use Rattle.request.specs.declared.Root.{Root}
-use Rattle.request.specs.declared.Root.TheVariants as root
 use Rattle.request.specs.declared.Request.{Request}
-use Rattle.request.specs.declared.Asked.{Asked}
-use Rattle.request.specs.declared.Asked.TheVariants.{Latest, Named}
-use Rattle.request.specs.declared.Narrowing.{Narrowing}
-use Rattle.request.specs.declared.Narrowing.TheVariants as narrowing
 use Rattle.roottable.specs.declared.Wanted.{Wanted}
 use Rattle.roottable.specs.declared.Wanted.TheVariants as wanted
-use Rattle.roottable.specs.declared.Found.{Found}
-use Rattle.roottable.specs.declared.Found.TheVariants as found
-use Rattle.getkey.specs.declared.Answer.{Answer}
-use Rattle.getkey.specs.declared.Answer.TheVariants.{Granted, Create, Refused}
 use Rattle.request.specs.Indices.{out_of_range, mixed, later_than_now, names}
 use Rattle.request.specs.Narrowed.{narrowed_of}
 use Rattle.roottable.specs.Rows.{table_wrong}
@@ -50,10 +42,10 @@ checks verdict rights q present len =
     ∷ []
 
 -- root none and named: the named one; root given and L0 before now's L0: (L0, 31, 31); else now
-unfoldable pub granted_at : Asked → Root → Gkid → Gkid
-granted_at (Named i) root.None present = i
-granted_at (Named i) (root.Given id) present = cond (ltb i.l0.0 present.l0.0) (gkid i.l0.0 31 31) present
-granted_at Latest root present = present
+unfoldable pub granted_at : Option Gkid → Option RootId → Gkid → Gkid
+granted_at (Some i) None present = i
+granted_at (Some i) (Some id) present = cond (ltb i.l0.0 present.l0.0) (gkid i.l0.0 31 31) present
+granted_at None root present = present
 
 -- public rights give PUBLIC, seed rights the seed form; no rights give no key
 unfoldable pub form_for : Rights → Gkid → Form
@@ -62,65 +54,65 @@ form_for rights.Public at = form.Public
 form_for rights.Seed at = seed_form at
 
 -- given: that root; none and all -1: the highest use-start; none and named: in use at the start of the named one, which is granted
-unfoldable pub wanted_of : Root → Asked → Wanted
-wanted_of (root.Given id) asked = wanted.Root id
-wanted_of root.None Latest = wanted.Newest
-wanted_of root.None (Named i) = wanted.InUse (record { 0 = start_time i })
+unfoldable pub wanted_of : Option RootId → Option Gkid → Wanted
+wanted_of (Some id) asked = wanted.Root id
+wanted_of None None = wanted.Newest
+wanted_of None (Some i) = wanted.InUse (record { 0 = start_time i })
 
 -- no such row: CREATE if none is given and all are -1, which suits every row, so that the table is empty; else 19
-unfoldable pub without_row : Root → Asked → Gkid → Form → Answer
-without_row root.None Latest at form = Create at form
-without_row root.None (Named i) at form = Refused NoRootKey
-without_row (root.Given id) asked at form = Refused NoRootKey
+unfoldable pub without_row : Option RootId → Option Gkid → Gkid → Form → Result OkRow Refusal
+without_row None None at form = OkCreate at form
+without_row None (Some i) at form = Err NoRootKey
+without_row (Some id) asked at form = Err NoRootKey
 
 -- what comes of the search for a row; 20 as it stands
-unfoldable pub with_row : Found → Root → Asked → Gkid → Form → Answer
-with_row (found.Row k) root asked at form = Granted at form k
-with_row found.None root asked at form = without_row root asked at form
-with_row (found.Refused r) root asked at form = Refused r
+unfoldable pub with_row : Result (Option ℕ) Refusal → Option RootId → Option Gkid → Gkid → Form → Result OkRow Refusal
+with_row (Ok (Some k)) root asked at form = OkRow at form k
+with_row (Ok None) root asked at form = without_row root asked at form
+with_row (Err r) root asked at form = Err r
 
 -- what the indices ask for, if a row is found; 14 and 15 as they stand
-unfoldable pub granting : Rights → Root → Narrowing → Gkid → List ℕ → Answer
-granting rights root (narrowing.Refused r) present table = Refused r
-granting rights root (narrowing.Asks asked) present table =
+unfoldable pub granting : Rights → Option RootId → Result (Option Gkid) Refusal → Gkid → List ℕ → Result OkRow Refusal
+granting rights root (Err r) present table = Err r
+granting rights root (Ok asked) present table =
     with_row (chosen_row (wanted_of root asked) table) root asked (granted_at asked root present) (form_for rights (granted_at asked root present))
 
-unfoldable pub decision_by_verdict : Bool → Rights → Request → FileTime → List ℕ → Answer
+unfoldable pub decision_by_verdict : Bool → Rights → Request → FileTime → List ℕ → Result OkRow Refusal
 decision_by_verdict verdict rights q clock table =
-    unless_refused Refused (first_of (checks verdict rights q (gkid_at clock) (length table))) (granting rights q.root (narrowed_of q) (gkid_at clock) table)
+    unless_refused Err (first_of (checks verdict rights q (gkid_at clock) (length table))) (granting rights q.root (narrowed_of q) (gkid_at clock) table)
 
 -- the descriptor's bytes in place of the verdict: it is yes where they are sound
-unfoldable pub decision : List ℕ → Rights → Request → FileTime → List ℕ → Answer
+unfoldable pub decision : List ℕ → Rights → Request → FileTime → List ℕ → Result OkRow Refusal
 decision descriptor rights q clock table = decision_by_verdict (is_sound descriptor) rights q clock table
 
 -- the start of what is named, as 64 bits hold it
-abbrev pub Starts : Asked → Type 0
-Starts Latest = Unit {0}
-Starts (Named i) = InGroup i × (start_time i < 2 ^ 64)
+abbrev pub Starts : Option Gkid → Type 0
+Starts None = Unit {0}
+Starts (Some i) = InGroup i × (start_time i < 2 ^ 64)
 
 -- document 01's number and values: 0 and the identifier, the form, the row, and whether a root key is created; or the refusal's
 -- number and zeros
-unfoldable pub answer_number : Answer → ℕ
-answer_number (Granted at form row) = 0
-answer_number (Create at form) = 0
-answer_number (Refused r) = number_of r
+unfoldable pub answer_number : Result OkRow Refusal → ℕ
+answer_number (OkRow at form row) = 0
+answer_number (OkCreate at form) = 0
+answer_number (Err r) = number_of r
 
-unfoldable pub answer_at : Answer → Gkid
-answer_at (Granted at form row) = at
-answer_at (Create at form) = at
-answer_at (Refused r) = gkid 0 0 0
+unfoldable pub answer_at : Result OkRow Refusal → Gkid
+answer_at (OkRow at form row) = at
+answer_at (OkCreate at form) = at
+answer_at (Err r) = gkid 0 0 0
 
-unfoldable pub answer_form : Answer → Form
-answer_form (Granted at form row) = form
-answer_form (Create at form) = form
-answer_form (Refused r) = form.Keyless
+unfoldable pub answer_form : Result OkRow Refusal → Form
+answer_form (OkRow at form row) = form
+answer_form (OkCreate at form) = form
+answer_form (Err r) = form.Keyless
 
-unfoldable pub answer_row : Answer → ℕ
-answer_row (Granted at form row) = row
-answer_row (Create at form) = 0
-answer_row (Refused r) = 0
+unfoldable pub answer_row : Result OkRow Refusal → ℕ
+answer_row (OkRow at form row) = row
+answer_row (OkCreate at form) = 0
+answer_row (Err r) = 0
 
-unfoldable pub answer_creates : Answer → Bool
-answer_creates (Granted at form row) = false
-answer_creates (Create at form) = true
-answer_creates (Refused r) = false
+unfoldable pub answer_creates : Result OkRow Refusal → Bool
+answer_creates (OkRow at form row) = false
+answer_creates (OkCreate at form) = true
+answer_creates (Err r) = false

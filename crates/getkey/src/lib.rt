@@ -57,10 +57,10 @@ pub fn decide_by_verdict(
 {
     let present = Gkid::at(clock);
     match judge(verdict, rights, request, present) {
-        Outcome::Refused(refusal) => Answer::Refused(refusal),
-        Outcome::Accepted => match request.narrowed() {
-            Narrowing::Refused(refusal) => Answer::Refused(refusal),
-            Narrowing::Asks(asked) => {
+        Err(refusal) => Err(refusal),
+        Ok(()) => match request.narrowed() {
+            Err(refusal) => Err(refusal),
+            Ok(asked) => {
                 let root = request.root;
                 grant(rights, root, asked, present, table)
             }
@@ -73,21 +73,21 @@ fn judge(verdict: bool, rights: Rights, request: Request, present: Gkid) -> Outc
     ensures { (len : ℕ) → result ≡ first_of (take 5 (checks verdict rights request present len)) }
 {
     if !verdict {
-        return Outcome::Refused(Refusal::VerdictNo);
+        return Err(Refusal::VerdictNo);
     }
     if request.out_of_range() {
-        return Outcome::Refused(Refusal::IndexOutOfRange);
+        return Err(Refusal::IndexOutOfRange);
     }
     if request.is_mixed() {
-        return Outcome::Refused(Refusal::MixedIndices);
+        return Err(Refusal::MixedIndices);
     }
     if request.is_later_than(present) {
-        return Outcome::Refused(Refusal::LaterThanNow);
+        return Err(Refusal::LaterThanNow);
     }
     if rights.are_too_low(request.names_one()) {
-        return Outcome::Refused(Refusal::RightsTooLow);
+        return Err(Refusal::RightsTooLow);
     }
-    Outcome::Accepted
+    Ok(())
 }
 
 // What is asked for, if a row is found: 20, 19.
@@ -98,9 +98,9 @@ fn grant(rights: Rights, root: Root, asked: Asked, present: Gkid, table: &[u8]) 
     let at = granted_at(asked, root, present);
     let form = rights.form(at);
     match choose(row_wanted(root, asked), table) {
-        Found::Row(row) => Answer::Granted { at, form, row },
-        Found::None => without_row(root, asked, at, form),
-        Found::Refused(refusal) => Answer::Refused(refusal),
+        Ok(Some(row)) => OkRow { at, form, row },
+        Ok(None) => without_row(root, asked, at, form),
+        Err(refusal) => Err(refusal),
     }
 }
 
@@ -108,12 +108,12 @@ fn grant(rights: Rights, root: Root, asked: Asked, present: Gkid, table: &[u8]) 
 fn granted_at(asked: Asked, root: Root, present: Gkid) -> Gkid
     ensures { result ≡ granted_at asked root present }
 {
-    let Asked::Named(named) = asked else {
+    let Some(named) = asked else {
         return present;
     };
     match root {
-        Root::None => named,
-        Root::Given(_) => {
+        None => named,
+        Some(_) => {
             if named.l0.0 < present.l0.0 {
                 let l0 = named.l0;
                 Gkid {
@@ -134,10 +134,10 @@ fn row_wanted(root: Root, asked: Asked) -> Wanted
     ensures { result ≡ wanted_of root asked }
 {
     match root {
-        Root::Given(id) => Wanted::Root(id),
-        Root::None => match asked {
-            Asked::Latest => Wanted::Newest,
-            Asked::Named(named) => Wanted::InUse(start_of(named)),
+        Some(id) => Wanted::Root(id),
+        None => match asked {
+            None => Wanted::Newest,
+            Some(named) => Wanted::InUse(start_of(named)),
         },
     }
 }
@@ -148,8 +148,8 @@ fn start_of(at: Gkid) -> FileTime
     ensures { result ≡ record { 0 = start_time at } }
 {
     match at.start() {
-        Start::At(time) => time,
-        Start::Refused(_) => FileTime(0),
+        Ok(time) => time,
+        Err(_) => FileTime(0),
     }
 }
 
@@ -157,12 +157,12 @@ fn start_of(at: Gkid) -> FileTime
 fn without_row(root: Root, asked: Asked, at: Gkid, form: Form) -> Answer
     ensures { result ≡ without_row root asked at form }
 {
-    if let Root::None = root {
-        if let Asked::Latest = asked {
-            return Answer::Create { at, form };
+    if let None = root {
+        if let None = asked {
+            return OkCreate { at, form };
         }
     }
-    Answer::Refused(Refusal::NoRootKey)
+    Err(Refusal::NoRootKey)
 }
 
 impl Rights {

@@ -15,12 +15,12 @@ pub extern "C" fn gw_efskey_read(s: &[u8]) -> EfsKeyAnswer
     ensures { result ≡ efs_key_answer (efs_key_of s.now) }
 {
     match efskey::read(s) {
-        EfsKeyRead::Accepted(key) => {
+        Ok(key) => {
             let sid = key.sid;
             let certificate = key.certificate;
             return efskey_accepted(sid, certificate);
         }
-        EfsKeyRead::Refused(refusal) => {
+        Err(refusal) => {
             return efskey_refused(refusal);
         }
     }

@@ -21,10 +21,10 @@ pub extern "C" fn gw_entry_read(s: &[u8]) -> EntryAnswer
     ensures { result ≡ entry_answer (entry_of s.now) }
 {
     match keyentry::read(s) {
-        EntryRead::Accepted(entry) => {
+        Ok(entry) => {
             return entry_answer(entry);
         }
-        EntryRead::Refused(refusal) => {
+        Err(refusal) => {
             return entry_refused(refusal);
         }
     }

@@ -16,14 +16,14 @@ use refusal::Outcome;
 pub extern "C" fn gw_envelope_read(s: &[u8]) -> EnvelopeAnswer
     ensures { result ≡ envelope_answer (envelope_of s.now) }
 {
-    if let Outcome::Refused(refusal) = envelope::judge_head(s) {
+    if let Err(refusal) = envelope::judge_head(s) {
         return envelope_refused(refusal);
     }
     match envelope::read(s) {
-        EnvelopeRead::Accepted(envelope) => {
+        Ok(envelope) => {
             return envelope_answer(envelope);
         }
-        EnvelopeRead::Refused(refusal) => {
+        Err(refusal) => {
             return envelope_refused(refusal);
         }
     }

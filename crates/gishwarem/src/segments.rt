@@ -15,10 +15,10 @@ pub extern "C" fn gw_segment_read(s: &[u8]) -> SegmentAnswer
     ensures { result ≡ segment_answer (segment_of s.now) }
 {
     match segment::read(s) {
-        SegmentRead::Accepted(segment) => {
+        Ok(segment) => {
             return segment_answer(segment);
         }
-        SegmentRead::Refused(refusal) => {
+        Err(refusal) => {
             return segment_refused(refusal);
         }
     }

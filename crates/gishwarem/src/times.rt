@@ -31,13 +31,13 @@ pub extern "C" fn gw_identifier_older(at: Identifier) -> IdentifierAnswer
     ensures { result ≡ older_answer (older_of (gkid_from at)) }
 {
     match to_gkid(at).older() {
-        Older::Is(older) => {
+        Ok(Some(older)) => {
             return present_answer(older);
         }
-        Older::None => {
+        Ok(None) => {
             return none_older();
         }
-        Older::Refused(refusal) => {
+        Err(refusal) => {
             return older_refused(refusal);
         }
     }

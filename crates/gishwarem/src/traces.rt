@@ -26,10 +26,10 @@ pub extern "C" fn gw_trace_read(s: &[u8]) -> TraceAnswer
     ensures { result ≡ trace_answer (record_of s.now) }
 {
     match trace::read(s) {
-        RecordRead::Accepted(recorded) => {
+        Ok(recorded) => {
             return trace_answer(recorded);
         }
-        RecordRead::Refused(refusal) => {
+        Err(refusal) => {
             return trace_refused(refusal);
         }
     }

@@ -1,9 +1,9 @@
 -- Laws of the next older identifier: it is the greatest of its L0 group below the one asked, and (L0, 0, 0) has none.
 use Rattle.lemmas.proofs.Basics.{ℕ, ◌+◌, arith, true, false, ◌≡◌, refl, sym, ◌∙◌, ltb, lt-ltb, le-ltb, ltb-true, ltb-false}
+use Rattle.std.specs.Prelude.{Result, Ok, Err, Option, None, Some}
+use Rattle.refusal.specs.declared.Refusal.{Refusal}
 use Rattle.refusal.specs.declared.Refusal.TheVariants.{IndexAbove31}
 use Rattle.gkid.specs.declared.Gkid.{Gkid}
-use Rattle.gkid.specs.declared.Older.{Older}
-use Rattle.gkid.specs.declared.Older.TheVariants.{Is, None, Refused}
 use Rattle.gkid.specs.Identifier.{gkid, index_above_31, InGroup, later}
 use Rattle.gkid.specs.Older.{older_of}
 use Rattle.lemmas.proofs.Cases.{cond_cases}
@@ -26,10 +26,10 @@ one_less i j a b same e =
     }
 
 -- what each answer says of the identifier asked
-abbrev pub Says : Gkid → Older → Type 0
-Says i (Is j) = NextOlder i j
-Says i None = (k : Gkid) → k.l0.0 ≡ i.l0.0 → InGroup k → later i k ≡ false
-Says i (Refused r) = (r ≡ IndexAbove31) × (index_above_31 i ≡ true)
+abbrev pub Says : Gkid → Result (Option Gkid) Refusal → Type 0
+Says i (Ok (Some j)) = NextOlder i j
+Says i (Ok None) = (k : Gkid) → k.l0.0 ≡ i.l0.0 → InGroup k → later i k ≡ false
+Says i (Err r) = (r ≡ IndexAbove31) × (index_above_31 i ≡ true)
 
 -- Is: the next older. None: nothing in the group is earlier. Refused: an index is above 31.
 pub older_says : (i : Gkid) → Says i (older_of i)
@@ -42,6 +42,6 @@ older_says i =
     (λ t k same w. later_ordinal i k g w ∙ le-ltb (ordinal k) (ordinal i) (omega (arith, ltb-false)))))
 
 -- (L0, 0, 0) has none.
-pub first_has_none : (l0 : ℕ) → older_of (gkid l0 0 0) ≡ None
+pub first_has_none : (l0 : ℕ) → older_of (gkid l0 0 0) ≡ Ok None
 unfolding older_of index_above_31
 first_has_none l0 = refl

@@ -1,11 +1,10 @@
 -- Laws of the conversion of readings and of start times.
 use Rattle.lemmas.proofs.Basics.{ℕ, ◌+◌, ◌*◌, ◌/◌, ◌%◌, ◌^◌, ◌≤◌, ◌<◌, arith, false, cond, ◌≡◌, refl, sym, subst, ◌∙◌, ltb, leb, le-ltb, ltb-true, ltb-false, le-leb, lt-leb}
+use Rattle.std.specs.Prelude.{Result, Ok, Err}
 use Rattle.refusal.specs.declared.Refusal.{Refusal}
 use Rattle.refusal.specs.declared.Refusal.TheVariants.{IndexAbove31, StartPastTime}
 use Rattle.gkid.specs.declared.FileTime.{FileTime}
 use Rattle.gkid.specs.declared.Gkid.{Gkid}
-use Rattle.gkid.specs.declared.Start.{Start}
-use Rattle.gkid.specs.declared.Start.TheVariants.{At, Refused}
 use Rattle.gkid.specs.Identifier.{gkid, index_above_31, InGroup, later}
 use Rattle.gkid.specs.Conversion.{l2_step, gkid_at, highest}
 use Rattle.gkid.specs.Start.{start_time, start_of, start_shown}
@@ -41,7 +40,7 @@ reading_monotone s t h =
     ∙ le-ltb (ordinal (gkid_at t)) (ordinal (gkid_at s)) (omega (arith, reading_ordinal s, reading_ordinal t))
 
 -- Beside a refusal's number stands zero.
-pub refused_zero : (r : Refusal) → start_shown (Refused r) ≡ 0
+pub refused_zero : (r : Refusal) → start_shown (Err r) ≡ 0
 unfolding start_shown
 refused_zero r = refl
 
@@ -59,18 +58,18 @@ unfolding highest
 past_time i g = past_ordinal i ∙ sym (later_ordinal i highest g (reading_in_group _))
 
 -- Start time by L2 steps: 5, then 21 exactly where there are more than to the highest identifier, then so many L2 steps.
-pub start_by_steps : (i : Gkid) → start_of i ≡ cond (index_above_31 i) (Refused IndexAbove31) (cond (ltb (ordinal highest) (ordinal i)) (Refused StartPastTime) (At (record { 0 = ordinal i * l2_step })))
+pub start_by_steps : (i : Gkid) → start_of i ≡ cond (index_above_31 i) (Err IndexAbove31) (cond (ltb (ordinal highest) (ordinal i)) (Err StartPastTime) (Ok (record { 0 = ordinal i * l2_step })))
 unfolding start_of
 start_by_steps i = let ticks : start_time i ≡ ordinal i * l2_step = omega arith in rw (past_ordinal i, ticks)
 
 -- Where L1 and L2 are up to 31 and 64 bits hold the start time, that is the answer.
-pub start_is : (i : Gkid) → InGroup i → start_time i < 2 ^ 64 → start_of i ≡ At (record { 0 = start_time i })
+pub start_is : (i : Gkid) → InGroup i → start_time i < 2 ^ 64 → start_of i ≡ Ok (record { 0 = start_time i })
 unfolding start_of
 start_is i g h = rw (not_above i g, lt-leb (2 ^ 64) (start_time i) h)
 
 -- The start of a converted reading is not refused; it is at most the reading, and less than one L2 step below it.
 pub record Started (t s : FileTime) : Type 0 where
-  pub told : start_of (gkid_at t) ≡ At s
+  pub told : start_of (gkid_at t) ≡ Ok s
   pub reached : s.0 ≤ t.0
   pub recent : t.0 < s.0 + l2_step
 
@@ -80,18 +79,18 @@ reading_start t h =
     record { told = start_is (gkid_at t) (reading_in_group t) (omega arith); reached = omega arith; recent = omega arith }
 
 -- what a start says of its identifier
-abbrev Says : Gkid → Start → Type 0
-Says i (At s) = InGroup i × (s.0 ≡ start_time i)
-Says i (Refused r) = Unit {0}
+abbrev Says : Gkid → Result FileTime Refusal → Type 0
+Says i (Ok s) = InGroup i × (s.0 ≡ start_time i)
+Says i (Err r) = Unit {0}
 
 says : (i : Gkid) → Says i (start_of i)
 unfolding start_of
 says i = cond_cases (Says i) (index_above_31 i) (λ _. tt) (λ a. cond_cases (Says i) (leb (2 ^ 64) (start_time i)) (λ _. tt) (λ _. (in_group i a, refl)))
 
 -- Where an identifier's start is not refused, that reading is converted to the identifier.
-pub start_converted : (i : Gkid) (s : FileTime) → start_of i ≡ At s → gkid_at s ≡ i
+pub start_converted : (i : Gkid) (s : FileTime) → start_of i ≡ Ok s → gkid_at s ≡ i
 start_converted i s e =
-    let h : Says i (At s) = subst (Says i) e (says i) in
+    let h : Says i (Ok s) = subst (Says i) e (says i) in
     ordinal_injective (gkid_at s) i (reading_in_group s) h.0 (omega (arith, reading_ordinal s))
 
 -- An identifier up to now starts within 64 bits.

@@ -11,40 +11,25 @@ ghost use Rattle.gkid.specs.Older.{older_of};
 use refusal::Refusal;
 
 // A clock reading in ticks, 64-bit.
-#[derive(Clone, Copy)]
+#[derive(Clone, Copy, Debug, PartialEq, Eq, PartialOrd, Ord)]
 pub struct FileTime(pub u64);
 
 // The three indices of an identifier.
-#[derive(Clone, Copy)]
+#[derive(Clone, Copy, Debug, PartialEq, Eq, PartialOrd, Ord)]
 pub struct L0(pub u32);
 
-#[derive(Clone, Copy)]
+#[derive(Clone, Copy, Debug, PartialEq, Eq, PartialOrd, Ord)]
 pub struct L1(pub u32);
 
-#[derive(Clone, Copy)]
+#[derive(Clone, Copy, Debug, PartialEq, Eq, PartialOrd, Ord)]
 pub struct L2(pub u32);
 
 // A group key identifier, (L0, L1, L2).
-#[derive(Clone, Copy)]
+#[derive(Clone, Copy, Debug, PartialEq, Eq, PartialOrd, Ord)]
 pub struct Gkid {
     pub l0: L0,
     pub l1: L1,
     pub l2: L2,
-}
-
-// The reading at which an identifier starts, or refusal 5 or 21.
-#[derive(Clone, Copy)]
-pub enum Start {
-    At(FileTime),
-    Refused(Refusal),
-}
-
-// The next older identifier of an L0 group, or that there is none, or refusal 5.
-#[derive(Clone, Copy)]
-pub enum Older {
-    Is(Gkid),
-    None,
-    Refused(Refusal),
 }
 
 impl Gkid {
@@ -88,18 +73,18 @@ impl Gkid {
         !self.index_above_31()
     }
 
-    // 5, then 21. What is not past the highest identifier starts within 64 bits, so that no product wraps here.
-    pub fn start(self) -> Start
+    // The reading at which an identifier starts: 5, then 21. What is not past the highest identifier starts within 64 bits, so that no product wraps here.
+    pub fn start(self) -> Result<FileTime, Refusal>
         ensures { result ≡ start_of self }
     {
         if !self.in_group() {
-            return Start::Refused(Refusal::IndexAbove31);
+            return Err(Refusal::IndexAbove31);
         }
         let steps = self.steps();
         if steps > Gkid::HIGHEST.steps() {
-            return Start::Refused(Refusal::StartPastTime);
+            return Err(Refusal::StartPastTime);
         }
-        Start::At(FileTime(steps * Gkid::L2_STEP))
+        Ok(FileTime(steps * Gkid::L2_STEP))
     }
 
     // The L2 steps from (0, 0, 0) on. In a group no two identifiers have as many.
@@ -110,29 +95,29 @@ impl Gkid {
         self.l0.0 as u64 * Gkid::L0_STEPS + self.l1.0 as u64 * Gkid::L1_STEPS + self.l2.0 as u64
     }
 
-    // 5 if an index is above 31; (L0, 0, 0) has none.
-    pub fn older(self) -> Older
+    // The next older identifier of its L0 group: 5 if an index is above 31; (L0, 0, 0) has none.
+    pub fn older(self) -> Result<Option<Gkid>, Refusal>
         ensures { result ≡ older_of self }
     {
         let l0 = self.l0;
         let l1 = self.l1;
         if !self.in_group() {
-            return Older::Refused(Refusal::IndexAbove31);
+            return Err(Refusal::IndexAbove31);
         }
         if self.l2.0 > 0 {
-            return Older::Is(Gkid {
+            return Ok(Some(Gkid {
                 l0,
                 l1,
                 l2: L2(self.l2.0 - 1),
-            });
+            }));
         }
         if l1.0 > 0 {
-            return Older::Is(Gkid {
+            return Ok(Some(Gkid {
                 l0,
                 l1: L1(l1.0 - 1),
                 l2: L2(31),
-            });
+            }));
         }
-        Older::None
+        Ok(None)
     }
 }

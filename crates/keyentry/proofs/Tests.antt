@@ -1,8 +1,8 @@
 -- Laws of the layout's tests: each fails exactly where the plain fact holds.
 use Rattle.lemmas.proofs.Basics.{ℕ, ◌+◌, ◌-◌, ◌≤◌, ◌<◌, min, max, arith, min_comm, max_comm, true, false, cond, not, ◌||◌, ◌⊎◌, inl, inr, ◌≡◌, refl, ap, ltb, leb, lt-ltb, le-ltb, ltb-false, le-leb, lt-leb, leb-true}
+use Rattle.std.specs.Prelude.{Ok, Err}
 use mathlib.Core.Bool.{or_comm}
 use Rattle.lemmas.proofs.Cases.{by_cases, or-false, false-or, not-false}
-use Rattle.refusal.specs.declared.Outcome.TheVariants.{Accepted, Refused}
 use Rattle.refusal.specs.declared.Refusal.TheVariants.{Overlap, UnusedRun}
 use Rattle.refusal.specs.Chain.{first_of}
 use Rattle.keyentry.specs.Layout.{outside, overlap, run_before, run_between, run_after, long_run, run_checks}
@@ -62,23 +62,23 @@ module _ (p n f e L : ℕ) (order : p + n ≤ f) where
   unfolding long_run
   long_is = let o = ordered p n f e L order in rw (o.0, o.1, o.2)
 
-  runs_are : first_of (run_checks p n f e L) ≡ cond (ltb 8 (p - 20) || (ltb 8 (f - (p + n)) || ltb 8 (L - (f + e)))) (Refused UnusedRun) Accepted
+  runs_are : first_of (run_checks p n f e L) ≡ cond (ltb 8 (p - 20) || (ltb 8 (f - (p + n)) || ltb 8 (L - (f + e)))) (Err UnusedRun) (Ok tt)
   unfolding run_checks first_of
   runs_are = rw (item_first p n f e order, long_is)
 
-  pub run_before_lem : 28 < p → first_of (run_checks p n f e L) ≡ Refused UnusedRun
+  pub run_before_lem : 28 < p → first_of (run_checks p n f e L) ≡ Err UnusedRun
   run_before_lem h = rw (runs_are, lt-ltb 8 (p - 20) (omega arith))
 
-  pub run_between_lem : p ≤ 28 → p + n + 8 < f → first_of (run_checks p n f e L) ≡ Refused UnusedRun
+  pub run_between_lem : p ≤ 28 → p + n + 8 < f → first_of (run_checks p n f e L) ≡ Err UnusedRun
   run_between_lem b h = rw (runs_are, le-ltb 8 (p - 20) (omega arith), lt-ltb 8 (f - (p + n)) (omega arith))
 
-  pub run_after_lem : p ≤ 28 → f ≤ p + n + 8 → f + e + 8 < L → first_of (run_checks p n f e L) ≡ Refused UnusedRun
+  pub run_after_lem : p ≤ 28 → f ≤ p + n + 8 → f + e + 8 < L → first_of (run_checks p n f e L) ≡ Err UnusedRun
   run_after_lem b m h = rw (runs_are, le-ltb 8 (p - 20) (omega arith), le-ltb 8 (f - (p + n)) (omega arith), lt-ltb 8 (L - (f + e)) (omega arith))
 
-  pub runs_short : p ≤ 28 → f ≤ p + n + 8 → L ≤ f + e + 8 → first_of (run_checks p n f e L) ≡ Accepted
+  pub runs_short : p ≤ 28 → f ≤ p + n + 8 → L ≤ f + e + 8 → first_of (run_checks p n f e L) ≡ Ok tt
   runs_short b m h = rw (runs_are, le-ltb 8 (p - 20) (omega arith), le-ltb 8 (f - (p + n)) (omega arith), le-ltb 8 (L - (f + e)) (omega arith))
 
 -- Neither stands before the other.
-pub run_overlap : (p n f e L : ℕ) → f < p + n → p < f + e → first_of (run_checks p n f e L) ≡ Refused Overlap
+pub run_overlap : (p n f e L : ℕ) → f < p + n → p < f + e → first_of (run_checks p n f e L) ≡ Err Overlap
 unfolding run_checks overlap first_of
 run_overlap p n f e L a b = rw (lt-leb (p + n) f a, lt-leb (f + e) p b)

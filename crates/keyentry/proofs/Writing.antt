@@ -1,6 +1,6 @@
 -- Laws of the writer: what its bytes read as, and which checks can apply to them.
 use Rattle.lemmas.proofs.Basics.{ℕ, ◌+◌, ◌^◌, ◌≤◌, ◌<◌, arith, not, List, [], ◌∷◌, ◌++◌, append-nil, append_assoc, ◌≡◌, refl, sym, ap, ◌∙◌, ltb, eqb, length, length-append, le-ltb, ltb-false, eq-eqb, eqb-true}
-use Rattle.refusal.specs.declared.Outcome.TheVariants as outcome
+use Rattle.std.specs.Prelude.{Ok}
 use Rattle.refusal.specs.declared.Refusal.TheVariants.{TooLong, LengthsDisagree, EmptyItem}
 use Rattle.refusal.specs.Chain.{Check, ◌⇒◌, first_of}
 use Rattle.lemmas.proofs.Cases.{not-false}
@@ -100,6 +100,6 @@ write_checks_lem flags item fek =
     ∙ straight (length item) (length fek) some))))
 
 -- What is accepted is within the limit.
-pub within_limit : (flags : ℕ) (item fek : List ℕ) → first_of (write_checks flags item fek) ≡ outcome.Accepted → entry_length item fek ≤ 65535
+pub within_limit : (flags : ℕ) (item fek : List ℕ) → first_of (write_checks flags item fek) ≡ Ok tt → entry_length item fek ≤ 65535
 unfolding write_checks
 within_limit flags item fek e = ltb-false 65535 (entry_length item fek) (accepted_pass _ e).0

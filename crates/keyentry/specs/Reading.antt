@@ -1,5 +1,6 @@
 -- Document 01, "Key List Entry and list": what the reader answers.
-use Rattle.std.specs.Prelude.{ℕ, List, ◌∷◌, cond, not, ltb, eqb, length}
+use Rattle.std.specs.Prelude.{ℕ, List, ◌∷◌, cond, not, ltb, eqb, length, Result, Ok, Err}
+use Rattle.refusal.specs.declared.Refusal.{Refusal}
 use Rattle.refusal.specs.declared.Refusal.TheVariants.{TooLong, Short, LengthsDisagree, Misplaced}
 use Rattle.refusal.specs.Chain.{Check, ◌⇒◌, first_of, unless_refused}
 use Rattle.refusal.specs.Number.{number_of}
@@ -8,8 +9,6 @@ use Rattle.wire.specs.Parts.{part_of}
 use Rattle.keyentry.specs.declared.Algorithm.{Algorithm}
 use Rattle.keyentry.specs.declared.Algorithm.TheVariants.{Rsa, Aes256, Unsupported}
 use Rattle.keyentry.specs.declared.Entry.{Entry}
-use Rattle.keyentry.specs.declared.EntryRead.{EntryRead}
-use Rattle.keyentry.specs.declared.EntryRead.TheVariants.{Accepted, Refused}
 use Rattle.keyentry.specs.declared.EntryPart.{EntryPart}
 use Rattle.keyentry.specs.declared.EntryPart.TheVariants.{Item, Fek}
 use Rattle.keyentry.specs.Layout.{length_field, public_key_at, public_key_length, fek_at, fek_length, flags_of, outside, item_checks}
@@ -35,27 +34,27 @@ shown s =
     }
 
 -- what the reader answers
-unfoldable pub entry_of : List ℕ → EntryRead
-entry_of s = unless_refused Refused (first_of (entry_checks s)) (Accepted (shown s))
+unfoldable pub entry_of : List ℕ → Result Entry Refusal
+entry_of s = unless_refused Err (first_of (entry_checks s)) (Ok (shown s))
 
 -- Flags never refuse: 0 is RSA, 1 is AES-256, others are unsupported
 unfoldable pub algorithm_of : ℕ → Algorithm
 algorithm_of flags = cond (eqb flags 0) Rsa (cond (eqb flags 1) Aes256 Unsupported)
 
 -- document 01's numbers: 0 and the values, or the refusal's number and zeros
-unfoldable pub entry_number : EntryRead → ℕ
-entry_number (Accepted e) = 0
-entry_number (Refused r) = number_of r
+unfoldable pub entry_number : Result Entry Refusal → ℕ
+entry_number (Ok e) = 0
+entry_number (Err r) = number_of r
 
-unfoldable pub entry_values : EntryRead → Entry
-entry_values (Accepted e) = e
-entry_values (Refused r) = record { flags = 0; item = record { at = 0; len = 0 }; fek = record { at = 0; len = 0 } }
+unfoldable pub entry_values : Result Entry Refusal → Entry
+entry_values (Ok e) = e
+entry_values (Err r) = record { flags = 0; item = record { at = 0; len = 0 }; fek = record { at = 0; len = 0 } }
 
 -- where an item stands; 0 and 0 on a refusal
-unfoldable pub span_of : EntryRead → EntryPart → Span
-span_of (Accepted e) Item = e.item
-span_of (Accepted e) Fek = e.fek
-span_of (Refused r) which = record { at = 0; len = 0 }
+unfoldable pub span_of : Result Entry Refusal → EntryPart → Span
+span_of (Ok e) Item = e.item
+span_of (Ok e) Fek = e.fek
+span_of (Err r) which = record { at = 0; len = 0 }
 
 abbrev pub entry_span : List ℕ → EntryPart → Span
 entry_span s which = span_of (entry_of s) which

@@ -1,10 +1,10 @@
 -- Document 01, "Key List Entry and list": what the writer makes and answers.
-use Rattle.std.specs.Prelude.{ℕ, ◌+◌, not, List, [], ◌∷◌, ltb, eqb, length}
+use Rattle.std.specs.Prelude.{ℕ, ◌+◌, not, List, [], ◌∷◌, ltb, eqb, length, Result}
+use Rattle.refusal.specs.declared.Refusal.{Refusal}
 use Rattle.refusal.specs.declared.Refusal.TheVariants.{TooLong, LengthsDisagree, EmptyItem}
 use Rattle.refusal.specs.Chain.{Check, ◌⇒◌, first_of}
 use Rattle.wire.specs.Numbers.{le_bytes}
 use Rattle.wire.specs.Parts.{le_at, joined}
-use Rattle.records.specs.declared.Written.{Written}
 use Rattle.records.specs.Writing.{written_of}
 use Rattle.keyentry.specs.Reading.{entry_checks}
 
@@ -36,5 +36,5 @@ write_checks flags item fek =
     ∷ entry_checks (entry_bytes flags item fek)
 
 -- what those checks say, then 13 where the output has not that many bytes
-abbrev pub entry_written : ℕ → List ℕ → List ℕ → ℕ → Written
+abbrev pub entry_written : ℕ → List ℕ → List ℕ → ℕ → Result ℕ Refusal
 entry_written flags item fek room = written_of (first_of (write_checks flags item fek)) (entry_length item fek) room

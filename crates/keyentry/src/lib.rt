@@ -63,11 +63,11 @@ impl EntryRead {
         ensures { result ≡ span_of self which }
     {
         match self {
-            EntryRead::Accepted(entry) => match which {
+            Ok(entry) => match which {
                 EntryPart::Item => entry.item,
                 EntryPart::Fek => entry.fek,
             },
-            EntryRead::Refused(_) => Span { at: 0, len: 0 },
+            Err(_) => Span { at: 0, len: 0 },
         }
     }
 }
@@ -77,11 +77,11 @@ pub fn read(s: &[u8]) -> EntryRead
     ensures { result ≡ entry_of s.now }
 {
     match judge(s) {
-        Outcome::Accepted => {
-            return EntryRead::Accepted(shown(s));
+        Ok(()) => {
+            return Ok(shown(s));
         }
-        Outcome::Refused(refusal) => {
-            return EntryRead::Refused(refusal);
+        Err(refusal) => {
+            return Err(refusal);
         }
     }
 }
@@ -92,17 +92,17 @@ fn judge(s: &[u8]) -> Outcome
 {
     let len = s.len();
     if LIMIT < len {
-        return Outcome::Refused(Refusal::TooLong);
+        return Err(Refusal::TooLong);
     }
     if len < 20 {
-        return Outcome::Refused(Refusal::Short);
+        return Err(Refusal::Short);
     }
     if le32_at(s, 0) as usize != len {
-        return Outcome::Refused(Refusal::LengthsDisagree);
+        return Err(Refusal::LengthsDisagree);
     }
     let p = le32_at(s, 4);
     if is_outside(p, 4, len) {
-        return Outcome::Refused(Refusal::Misplaced);
+        return Err(Refusal::Misplaced);
     }
     judge_items(
         p,
@@ -118,16 +118,16 @@ fn judge_items(p: u32, n: u32, f: u32, e: u32, len: usize) -> Outcome
     ensures { result ≡ first_of (item_checks p n f e len) }
 {
     if n < 4 {
-        return Outcome::Refused(Refusal::EmptyItem);
+        return Err(Refusal::EmptyItem);
     }
     if len < p as usize + n as usize {
-        return Outcome::Refused(Refusal::Misplaced);
+        return Err(Refusal::Misplaced);
     }
     if e == 0 {
-        return Outcome::Refused(Refusal::EmptyItem);
+        return Err(Refusal::EmptyItem);
     }
     if is_outside(f, e, len) {
-        return Outcome::Refused(Refusal::Misplaced);
+        return Err(Refusal::Misplaced);
     }
     judge_runs(p, n, f, e, len)
 }
@@ -149,7 +149,7 @@ fn judge_runs(p: u32, n: u32, f: u32, e: u32, len: usize) -> Outcome
     if f as usize + e as usize <= p as usize {
         return judge_ordered(f, e, p, n, len);
     }
-    Outcome::Refused(Refusal::Overlap)
+    Err(Refusal::Overlap)
 }
 
 // 9, where the item of n bytes at p ends before the one of e bytes at f begins.
@@ -158,15 +158,15 @@ fn judge_ordered(p: u32, n: u32, f: u32, e: u32, len: usize) -> Outcome
     ensures { result ≡ first_of (run_checks p n f e len) }
 {
     if 28 < p {
-        return Outcome::Refused(Refusal::UnusedRun);
+        return Err(Refusal::UnusedRun);
     }
     if p as usize + n as usize + 8 < f as usize {
-        return Outcome::Refused(Refusal::UnusedRun);
+        return Err(Refusal::UnusedRun);
     }
     if f as usize + e as usize + 8 < len {
-        return Outcome::Refused(Refusal::UnusedRun);
+        return Err(Refusal::UnusedRun);
     }
-    Outcome::Accepted
+    Ok(())
 }
 
 // What an accepted entry shows.
@@ -200,15 +200,15 @@ pub fn write(out: &mut [u8], flags: u32, item: &[u8], fek: &[u8]) -> Written
     ensures answer { result ≡ entry_written flags item.now fek.now (length out.old) }
     ensures output { out.new ≡ output_of result (entry_bytes flags item.now fek.now) out.old }
 {
-    if let Outcome::Refused(refusal) = judge_given(item, fek) {
-        return Written::Refused(refusal);
+    if let Err(refusal) = judge_given(item, fek) {
+        return Err(refusal);
     }
     let len = 20 + item.len() + fek.len();
     if out.len() < len {
-        return Written::Refused(Refusal::NoRoom);
+        return Err(Refusal::NoRoom);
     }
     put(out, flags, item, fek);
-    Written::Length(len)
+    Ok(len)
 }
 
 // 1, 7, 3, then as the reader would say of the bytes, which is 7 for an empty FEK. Flags never refuse.
@@ -216,18 +216,18 @@ fn judge_given(item: &[u8], fek: &[u8]) -> Outcome
     ensures { (flags : ℕ) → result ≡ first_of (write_checks flags item.now fek.now) }
 {
     if LIMIT < grown(grown(20, item.len()), fek.len()) {
-        return Outcome::Refused(Refusal::TooLong);
+        return Err(Refusal::TooLong);
     }
     if item.len() < 4 {
-        return Outcome::Refused(Refusal::EmptyItem);
+        return Err(Refusal::EmptyItem);
     }
     if le32_at(item, 0) as usize != item.len() {
-        return Outcome::Refused(Refusal::LengthsDisagree);
+        return Err(Refusal::LengthsDisagree);
     }
     if fek.len() == 0 {
-        return Outcome::Refused(Refusal::EmptyItem);
+        return Err(Refusal::EmptyItem);
     }
-    Outcome::Accepted
+    Ok(())
 }
 
 // The head, and each body into its own part of the output.

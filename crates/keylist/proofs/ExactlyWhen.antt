@@ -1,7 +1,8 @@
 -- A list is accepted exactly when every one of its entries is well formed, their lengths add up, and nothing is left.
 use Rattle.lemmas.proofs.Basics.{ℕ, zero, suc, ◌+◌, ◌-◌, ◌≤◌, arith, add-zero, cond, List, ◌++◌, ◌≡◌, refl, sym, ap, subst, ◌∙◌, eqb, length, take, drop, length-append, length-drop, take-append-drop, drop_of_length-le, length-take-le, drop_at, drop-drop, le-ltb, ltb-false, eq-eqb, eqb-true}
-use Rattle.refusal.specs.declared.Outcome.{Outcome}
-use Rattle.refusal.specs.declared.Outcome.TheVariants as outcome
+use Rattle.std.specs.Prelude.{Result, Ok}
+use Rattle.keylist.specs.declared.ListRefusal.{ListRefusal}
+use Rattle.refusal.specs.Outcome.{Outcome}
 use Rattle.refusal.specs.declared.Refusal.TheVariants.{BytesLeft}
 use Rattle.refusal.specs.Chain.{first_of, unless_refused}
 use Rattle.lemmas.proofs.Cases.{by_cases, false-or}
@@ -14,16 +15,14 @@ use Rattle.keyentry.specs.Reading.{entry_checks, entry_of, entry_number}
 use Rattle.keyentry.specs.WellFormed.{WellFormed}
 use Rattle.keyentry.proofs.ExactlyWhen.{accepted_well_formed, well_formed_accepted}
 use Rattle.keyentry.proofs.Reading.{accepted-checks, pass_shown}
-use Rattle.keylist.specs.declared.ListRead.{ListRead}
-use Rattle.keylist.specs.declared.ListRead.TheVariants as list
 use Rattle.keylist.specs.Reading.{count_of, list_checks, length_at, record_at, extent_checks, place_checks, entries_from, list_of, list_number}
 use Rattle.keylist.specs.WellFormed.{Entries, none, more, WellFormedList}
 use Rattle.keylist.proofs.Stepping.{lying}
 
 -- an answer that is 0: the checks that come first are passed, and what stands behind them is 0
-passed_on : (o : Outcome) (index : ℕ) (rest : ListRead) → list_number (unless_refused (λ r. list.Refused r index) o rest) ≡ 0 → (o ≡ outcome.Accepted) × (list_number rest ≡ 0)
+passed_on : (o : Outcome) (index : ℕ) (rest : Result ℕ ListRefusal) → list_number (unless_refused (λ r. ErrAt r index) o rest) ≡ 0 → (o ≡ Ok tt) × (list_number rest ≡ 0)
 unfolding list_number
-passed_on o index rest = unless_zero list_number (λ r. list.Refused r index) (λ r. refl) o rest
+passed_on o index rest = unless_zero list_number (λ r. ErrAt r index) (λ r. refl) o rest
 
 -- the entry's record, then what follows it
 split : (s : List ℕ) (at : ℕ) → length_at s at ≤ length s - at → 20 ≤ length_at s at → record_at s at ++ drop (at + length_at s at) s ≡ drop at s
@@ -34,7 +33,7 @@ split s at h some =
 accepted-entries : (n : ℕ) (s : List ℕ) (at index : ℕ) → list_number (entries_from n s at index) ≡ 0 → Entries n (drop at s)
 unfolding entries_from place_checks extent_checks list_number entry_number
 accepted-entries zero s at index z =
-    by_cases (λ t. list_number (cond t (list.Count index) (list.Refused BytesLeft 0)) ≡ 0 → Entries zero (drop at s)) (eqb at (length s))
+    by_cases (λ t. list_number (cond t (Ok index) (ErrAt BytesLeft 0)) ≡ 0 → Entries zero (drop at s)) (eqb at (length s))
     (λ q _. subst (Entries zero) (sym (drop_of_length-le s {i = at} (omega (arith, eqb-true at (length s) q)))) none)
     (λ q w. absurd (number_not-zero BytesLeft w))
     z
@@ -58,7 +57,7 @@ accepted_well_formed_list s z =
 record Stands (s : List ℕ) (at : ℕ) (e : List ℕ) : Type 0 where
   size : length_at s at ≡ length e
   is : record_at s at ≡ e
-  passes : first_of (place_checks s at) ≡ outcome.Accepted
+  passes : first_of (place_checks s at) ≡ Ok tt
 
 stands : (s : List ℕ) (at : ℕ) (e rest : List ℕ) → at ≤ length s → e ++ rest ≡ drop at s → WellFormed e → Stands s at e
 unfolding le_at place_checks extent_checks entry_of
@@ -75,7 +74,7 @@ stands s at e rest inside is w =
     let low : 20 ≤ length_at s at = omega (arith, w.head) in
     let high : length_at s at ≤ length s - at = omega arith in
     let left : 20 ≤ length s - at = omega arith in
-    let accepted : first_of (entry_checks (record_at s at)) ≡ outcome.Accepted = rw is-e (accepted-checks e (well_formed_accepted e w)) in
+    let accepted : first_of (entry_checks (record_at s at)) ≡ (Ok tt) = rw is-e (accepted-checks e (well_formed_accepted e w)) in
     record {
       size = size;
       is = is-e;
@@ -102,17 +101,17 @@ well_formed_list_accepted s w =
     rw (pass_accepted (list_checks s) (le-ltb 65535 (length s) w.limit, (le-ltb (length s) 4 w.head, tt))) (entries-accepted w.entries s 4 0 w.head refl)
 
 -- An accepted list shows its count: the number in its first four bytes.
-entries_counted : (n : ℕ) (s : List ℕ) (at index : ℕ) → list_number (entries_from n s at index) ≡ 0 → entries_from n s at index ≡ list.Count (index + n)
+entries_counted : (n : ℕ) (s : List ℕ) (at index : ℕ) → list_number (entries_from n s at index) ≡ 0 → entries_from n s at index ≡ Ok (index + n)
 unfolding entries_from unless_refused list_number
 entries_counted zero s at index z =
-    by_cases (λ t. list_number (cond t (list.Count index) (list.Refused BytesLeft 0)) ≡ 0 → cond t (list.Count index) (list.Refused BytesLeft 0) ≡ list.Count (index + 0)) (eqb at (length s))
-    (λ q _. ap list.Count (sym (add-zero index)))
+    by_cases (λ t. list_number (cond t (Ok index) (ErrAt BytesLeft 0)) ≡ 0 → cond t (Ok index) (ErrAt BytesLeft 0) ≡ Ok (index + 0)) (eqb at (length s))
+    (λ q _. ap Ok (sym (add-zero index)))
     (λ q w. absurd (number_not-zero BytesLeft w))
     z
 entries_counted (suc n) s at index z =
     let told = passed_on (first_of (place_checks s at)) index _ z in
-    rw told.0 (entries_counted n s (at + length_at s at) (index + 1) told.1 ∙ ap list.Count (omega arith))
+    rw told.0 (entries_counted n s (at + length_at s at) (index + 1) told.1 ∙ ap Ok (omega arith))
 
-pub accepted_counted : (s : List ℕ) → list_number (list_of s) ≡ 0 → list_of s ≡ list.Count (count_of s)
+pub accepted_counted : (s : List ℕ) → list_number (list_of s) ≡ 0 → list_of s ≡ Ok (count_of s)
 unfolding list_of unless_refused
-accepted_counted s z = let told = passed_on (first_of (list_checks s)) 0 _ z in rw told.0 (entries_counted (count_of s) s 4 0 told.1 ∙ ap list.Count (omega arith))
+accepted_counted s z = let told = passed_on (first_of (list_checks s)) 0 _ z in rw told.0 (entries_counted (count_of s) s 4 0 told.1 ∙ ap Ok (omega arith))

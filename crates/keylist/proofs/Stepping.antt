@@ -1,7 +1,8 @@
 -- Laws of a step: what each of its tests makes of it, and what it leaves to the steps after it.
 use Rattle.lemmas.proofs.Basics.{ℕ, suc, ◌+◌, ◌-◌, ◌≤◌, ◌<◌, arith, cond, List, ◌≡◌, refl, sym, ap, subst, ◌∙◌, ltb, eqb, length, lt-ltb, le-ltb, ltb-true, ltb-false}
-use Rattle.refusal.specs.declared.Outcome.{Outcome}
-use Rattle.refusal.specs.declared.Outcome.TheVariants as outcome
+use Rattle.std.specs.Prelude.{Result, Ok, Err, Option, None, Some}
+use Rattle.keylist.specs.declared.ListRefusal.{ListRefusal}
+use Rattle.refusal.specs.Outcome.{Outcome}
 use Rattle.refusal.specs.declared.Refusal.{Refusal}
 use Rattle.refusal.specs.declared.Refusal.TheVariants.{TooLong, Short}
 use Rattle.refusal.specs.Chain.{first_of, unless_refused}
@@ -12,41 +13,34 @@ use Rattle.wire.specs.declared.Span.{Span}
 use Rattle.wire.specs.Parts.{part_of}
 use Rattle.wire.proofs.Parts.{length_part, part_within}
 use Rattle.keyentry.specs.declared.Entry.{Entry}
-use Rattle.keyentry.specs.declared.EntryRead.TheVariants as entry
 use Rattle.keyentry.specs.declared.EntryPart.{EntryPart}
 use Rattle.keyentry.specs.Reading.{entry_checks, shown, entry_of, span_of, entry_part}
 use Rattle.keyentry.proofs.Reading.{accepted-shown, refused_checks, pass_shown, part_inside}
-use Rattle.keylist.specs.declared.Bounds.{Bounds}
-use Rattle.keylist.specs.declared.Bounds.TheVariants as bounds
 use Rattle.keylist.specs.declared.Place.{Place}
 use Rattle.keylist.specs.declared.Found.{Found}
-use Rattle.keylist.specs.declared.Step.{Step}
-use Rattle.keylist.specs.declared.Step.TheVariants as step
 use Rattle.keylist.specs.declared.Advance.{Advance}
-use Rattle.keylist.specs.declared.ListRead.{ListRead}
-use Rattle.keylist.specs.declared.ListRead.TheVariants as list
 use Rattle.keylist.specs.Reading.{count_of, list_checks, length_at, record_at, extent_checks, extent_of, bounds_number, bounds_span, place_checks, entries_from}
 use Rattle.keylist.specs.Passing.{judged_at}
 use Rattle.keylist.specs.Stepping.{found_at, end_at, entry_step, step_of, place_after, arrived, advance_of, step_span, list_span, list_part}
 
 -- the step of an outcome
-abbrev step_unless : Outcome → ℕ → Step → Step
-step_unless o index found = unless_refused (λ r. step.Refused r index) o found
+abbrev step_unless : Outcome → ℕ → Result (Option Found) ListRefusal → Result (Option Found) ListRefusal
+step_unless o index found = unless_refused (λ r. ErrAt r index) o found
 
-refused_step : {o : Outcome} {r : Refusal} (index : ℕ) (found : Step) → o ≡ outcome.Refused r → step_unless o index found ≡ step.Refused r index
+refused_step : {o : Outcome} {r : Refusal} (index : ℕ) (found : Result (Option Found) ListRefusal) → o ≡ Err r → step_unless o index found ≡ ErrAt r index
 unfolding unless_refused
 refused_step index found e = rw e
 
 -- 1 and 2 of the whole list, and neither.
-pub step_long : (s : List ℕ) (p : Place) → 65535 < length s → step_of s p ≡ step.Refused TooLong 0
+pub step_long : (s : List ℕ) (p : Place) → 65535 < length s → step_of s p ≡ ErrAt TooLong 0
 unfolding step_of list_checks
 step_long s p h = refused_step 0 _ (first_here _ _ _ (lt-ltb 65535 (length s) h))
 
-pub step_short : (s : List ℕ) (p : Place) → length s ≤ 65535 → length s < 4 → step_of s p ≡ step.Refused Short 0
+pub step_short : (s : List ℕ) (p : Place) → length s ≤ 65535 → length s < 4 → step_of s p ≡ ErrAt Short 0
 unfolding step_of list_checks
 step_short s p l h = refused_step 0 _ (first_next _ _ _ (le-ltb 65535 (length s) l) ∙ first_here _ _ _ (lt-ltb (length s) 4 h))
 
-pub within : (s : List ℕ) → length s ≤ 65535 → 4 ≤ length s → first_of (list_checks s) ≡ outcome.Accepted
+pub within : (s : List ℕ) → length s ≤ 65535 → 4 ≤ length s → first_of (list_checks s) ≡ Ok tt
 unfolding list_checks
 within s l h = pass_accepted (list_checks s) (le-ltb 65535 (length s) l, (le-ltb (length s) 4 h, tt))
 
@@ -59,48 +53,48 @@ unfolding step_of unless_refused
 step_end s p l h i = rw (within s l h, le-ltb p.index (count_of s) i)
 
 -- the answer of an outcome at a place, and what it tells
-abbrev at_place : List ℕ → ℕ → Outcome → Bounds
-at_place s at o = unless_refused bounds.Refused o (bounds.Record (record { at = at; len = length_at s at }))
+abbrev at_place : List ℕ → ℕ → Outcome → Result Span Refusal
+at_place s at o = unless_refused Err o (Ok (record { at = at; len = length_at s at }))
 
-told_record : (s : List ℕ) (at : ℕ) (span : Span) (o : Outcome) → at_place s at o ≡ bounds.Record span → (o ≡ outcome.Accepted) × (span ≡ record { at = at; len = length_at s at })
+told_record : (s : List ℕ) (at : ℕ) (span : Span) (o : Outcome) → at_place s at o ≡ Ok span → (o ≡ Ok tt) × (span ≡ record { at = at; len = length_at s at })
 unfolding unless_refused
-told_record s at span outcome.Accepted h = (refl, cc)
-told_record s at span (outcome.Refused r) h = let z : ◌≡◌ {A = ℕ} 0 1 = cc in absurd (omega arith)
+told_record s at span (Ok tt) h = (refl, cc)
+told_record s at span (Err r) h = let z : ◌≡◌ {A = ℕ} 0 1 = cc in absurd (omega arith)
 
-told_refused : (s : List ℕ) (at : ℕ) (r : Refusal) (o : Outcome) → at_place s at o ≡ bounds.Refused r → o ≡ outcome.Refused r
+told_refused : (s : List ℕ) (at : ℕ) (r : Refusal) (o : Outcome) → at_place s at o ≡ Err r → o ≡ Err r
 unfolding unless_refused
-told_refused s at r outcome.Accepted h = let z : ◌≡◌ {A = ℕ} 0 1 = cc in absurd (omega arith)
-told_refused s at r (outcome.Refused q) h = ap outcome.Refused (cc)
+told_refused s at r (Ok tt) h = let z : ◌≡◌ {A = ℕ} 0 1 = cc in absurd (omega arith)
+told_refused s at r (Err q) h = ap Err (cc)
 
 -- What the list rule told of a place.
 pub record Lies (s : List ℕ) (at : ℕ) (span : Span) : Type 0 where
-  pub checked : first_of (extent_checks s at) ≡ outcome.Accepted
+  pub checked : first_of (extent_checks s at) ≡ Ok tt
   pub is : span ≡ record { at = at; len = length_at s at }
   pub low : 20 ≤ length_at s at
   pub high : length_at s at ≤ length s - at
 
-pub lying : (s : List ℕ) (at : ℕ) (span : Span) → first_of (extent_checks s at) ≡ outcome.Accepted → span ≡ record { at = at; len = length_at s at } → Lies s at span
+pub lying : (s : List ℕ) (at : ℕ) (span : Span) → first_of (extent_checks s at) ≡ Ok tt → span ≡ record { at = at; len = length_at s at } → Lies s at span
 unfolding extent_checks
 lying s at span accepted is =
     let lengths = or-false (ltb (length_at s at) 20) _ (accepted_pass (extent_checks s at) accepted).1.0 in
     record { checked = accepted; is = is; low = ltb-false _ 20 lengths.0; high = ltb-false (length s - at) _ lengths.1 }
 
-pub lies : (s : List ℕ) (at : ℕ) (span : Span) → extent_of s at ≡ bounds.Record span → Lies s at span
+pub lies : (s : List ℕ) (at : ℕ) (span : Span) → extent_of s at ≡ Ok span → Lies s at span
 unfolding extent_of
 lies s at span e = let told = told_record s at span (first_of (extent_checks s at)) e in lying s at span told.0 told.1
 
 -- What `extent` promises of its answer: the number of the first check that applies, and a place inside the list.
-pub extent_told : (s : List ℕ) (at : ℕ) {b : Bounds} → b ≡ extent_of s at
+pub extent_told : (s : List ℕ) (at : ℕ) {b : Result Span Refusal} → b ≡ extent_of s at
     → (b ≡ extent_of s at) × ((bounds_number b ≡ outcome_number (first_of (extent_checks s at))) × ((bounds_span b).at + (bounds_span b).len ≤ length s))
 unfolding extent_of unless_refused bounds_number bounds_span outcome_number
 extent_told s at e = (e, rw e (told (first_of (extent_checks s at)) refl))
   where
     told : (o : Outcome) → first_of (extent_checks s at) ≡ o → (bounds_number (at_place s at o) ≡ outcome_number o) × ((bounds_span (at_place s at o)).at + (bounds_span (at_place s at o)).len ≤ length s)
-    told outcome.Accepted h = let l = lying s at _ h refl in (refl, omega (arith, l.low, l.high))
-    told (outcome.Refused r) h = (refl, omega arith)
+    told (Ok tt) h = let l = lying s at _ h refl in (refl, omega (arith, l.low, l.high))
+    told (Err r) h = (refl, omega arith)
 
 -- The outcome at a place: the list rule's refusal, or what the entry's reader says of its record.
-pub place_barred : (s : List ℕ) (at : ℕ) (r : Refusal) → extent_of s at ≡ bounds.Refused r → first_of (place_checks s at) ≡ outcome.Refused r
+pub place_barred : (s : List ℕ) (at : ℕ) (r : Refusal) → extent_of s at ≡ Err r → first_of (place_checks s at) ≡ Err r
 unfolding extent_of unless_refused place_checks
 place_barred s at r e = rw (first_append (extent_checks s at) (entry_checks (record_at s at)), told_refused s at r (first_of (extent_checks s at)) e)
 
@@ -112,25 +106,25 @@ module _ (s : List ℕ) (at : ℕ) (span : Span) (l : Lies s at span) where
   record_is : entry_of (record_at s at) ≡ entry_of (part_of s span.at span.len)
   record_is = ap (λ x. entry_of (part_of s x.at x.len)) (sym l.is)
 
-  pub place_accepted : (e : Entry) → entry_of (part_of s span.at span.len) ≡ entry.Accepted e → (first_of (place_checks s at) ≡ outcome.Accepted) × (e ≡ shown (record_at s at))
+  pub place_accepted : (e : Entry) → entry_of (part_of s span.at span.len) ≡ Ok e → (first_of (place_checks s at) ≡ Ok tt) × (e ≡ shown (record_at s at))
   place_accepted e h = let told = accepted-shown (record_at s at) e (record_is ∙ h) in (place_read ∙ told.0, told.1)
 
-  pub place_refused : (r : Refusal) → entry_of (part_of s span.at span.len) ≡ entry.Refused r → first_of (place_checks s at) ≡ outcome.Refused r
+  pub place_refused : (r : Refusal) → entry_of (part_of s span.at span.len) ≡ Err r → first_of (place_checks s at) ≡ Err r
   place_refused r h = place_read ∙ refused_checks (record_at s at) r (record_is ∙ h)
 
 -- A step into an entry by that outcome.
-pub entered_accepted : (s : List ℕ) (p : Place) (span : Span) → Lies s p.at span → (e : Entry) → entry_of (part_of s span.at span.len) ≡ entry.Accepted e
-    → arrived s p (entry_step s p) ≡ record { step = step.Entry (record { index = p.index; at = p.at; entry = e }); place = record { at = p.at + span.len; index = p.index + 1 } }
+pub entered_accepted : (s : List ℕ) (p : Place) (span : Span) → Lies s p.at span → (e : Entry) → entry_of (part_of s span.at span.len) ≡ Ok e
+    → arrived s p (entry_step s p) ≡ record { step = Ok (Some (record { index = p.index; at = p.at; entry = e })); place = record { at = p.at + span.len; index = p.index + 1 } }
 unfolding arrived entry_step unless_refused place_after found_at
 entered_accepted s p span l e h = let told = place_accepted s p.at span l e h in rw (told.0, told.1, l.is)
 
-pub entered_refused : (s : List ℕ) (p : Place) (r : Refusal) → first_of (place_checks s p.at) ≡ outcome.Refused r → arrived s p (entry_step s p) ≡ record { step = step.Refused r p.index; place = p }
+pub entered_refused : (s : List ℕ) (p : Place) (r : Refusal) → first_of (place_checks s p.at) ≡ Err r → arrived s p (entry_step s p) ≡ record { step = ErrAt r p.index; place = p }
 unfolding arrived entry_step unless_refused place_after
 entered_refused s p r e = rw e
 
 -- What is left from a place on, after the outcome of the whole list's checks.
-unfoldable pub resumed : Outcome → List ℕ → Place → ListRead
-resumed o s p = unless_refused (λ r. list.Refused r 0) o (entries_from (count_of s - p.index) s p.at p.index)
+unfoldable pub resumed : Outcome → List ℕ → Place → Result ℕ ListRefusal
+resumed o s p = unless_refused (λ r. ErrAt r 0) o (entries_from (count_of s - p.index) s p.at p.index)
 
 -- past an entry: it is that of the place, accepted by the entry's rule, and what is left is what is left from the next place
 pub record Past (o : Outcome) (s : List ℕ) (p : Place) (f : Found) (q : Place) : Type 0 where
@@ -138,14 +132,14 @@ pub record Past (o : Outcome) (s : List ℕ) (p : Place) (f : Found) (q : Place)
   pub index : q.index ≡ p.index + 1
   pub found : f ≡ found_at s p
   pub lies : Lies s p.at (record { at = p.at; len = length_at s p.at })
-  pub judged : entry_of (record_at s p.at) ≡ entry.Accepted f.entry
+  pub judged : entry_of (record_at s p.at) ≡ Ok f.entry
   pub rest : resumed o s p ≡ resumed o s q
 
 -- what a step says of what is left
-abbrev pub Says : Outcome → List ℕ → Place → Step → Place → Type 0
-Says o s p (step.Entry f) q = Past o s p f q
-Says o s p step.End q = resumed o s p ≡ list.Count p.index
-Says o s p (step.Refused r i) q = resumed o s p ≡ list.Refused r i
+abbrev pub Says : Outcome → List ℕ → Place → Result (Option Found) ListRefusal → Place → Type 0
+Says o s p (Ok (Some f)) q = Past o s p f q
+Says o s p (Ok None) q = resumed o s p ≡ Ok p.index
+Says o s p (ErrAt r i) q = resumed o s p ≡ ErrAt r i
 
 one_left : (n m : ℕ) → m < n → n - m ≡ suc (n - (m + 1))
 one_left n m h = omega arith
@@ -154,11 +148,11 @@ none_left : (n m : ℕ) → n ≤ m → n - m ≡ 0
 none_left n m h = omega arith
 
 -- A turn of the judge: what is left from a place on is a refusal, or what is left from the next place on.
-pub turn_refused : (s : List ℕ) (at index : ℕ) (r : Refusal) → index < count_of s → judged_at s at ≡ bounds.Refused r → entries_from (count_of s - index) s at index ≡ list.Refused r index
+pub turn_refused : (s : List ℕ) (at index : ℕ) (r : Refusal) → index < count_of s → judged_at s at ≡ Err r → entries_from (count_of s - index) s at index ≡ ErrAt r index
 unfolding judged_at entries_from unless_refused
 turn_refused s at index r h e = rw (one_left (count_of s) index h, told_refused s at r (first_of (place_checks s at)) e)
 
-pub turn_on : (s : List ℕ) (at index : ℕ) (span : Span) → index < count_of s → judged_at s at ≡ bounds.Record span
+pub turn_on : (s : List ℕ) (at index : ℕ) (span : Span) → index < count_of s → judged_at s at ≡ Ok span
     → Lies s at span × (entries_from (count_of s - index) s at index ≡ entries_from (count_of s - (index + 1)) s (at + span.len) (index + 1))
 unfolding judged_at entries_from unless_refused place_checks
 turn_on s at index span h e =
@@ -166,9 +160,9 @@ turn_on s at index span h e =
     (lying s at span (append-accepted (extent_checks s at) _ told.0).0 told.1, rw (one_left (count_of s) index h, told.0, told.1))
 
 says_entry : (s : List ℕ) (p : Place) → p.index < count_of s → (o : Outcome) → first_of (place_checks s p.at) ≡ o
-    → Says outcome.Accepted s p (step_unless o p.index (step.Entry (found_at s p))) (place_after (step_unless o p.index (step.Entry (found_at s p))) s p)
+    → Says (Ok tt) s p (step_unless o p.index (Ok (Some (found_at s p)))) (place_after (step_unless o p.index (Ok (Some (found_at s p)))) s p)
 unfolding place_after resumed unless_refused entries_from found_at place_checks
-says_entry s p h outcome.Accepted e =
+says_entry s p h (Ok tt) e =
     record {
       within = h;
       index = refl;
@@ -177,21 +171,21 @@ says_entry s p h outcome.Accepted e =
       judged = pass_shown (record_at s p.at) (append-accepted (extent_checks s p.at) _ e).1;
       rest = rw (one_left (count_of s) p.index h, e);
     }
-says_entry s p h (outcome.Refused r) e = rw (one_left (count_of s) p.index h, e)
+says_entry s p h (Err r) e = rw (one_left (count_of s) p.index h, e)
 
-says_end : (s : List ℕ) (p : Place) → count_of s ≤ p.index → Says outcome.Accepted s p (end_at s p.at) (place_after (end_at s p.at) s p)
+says_end : (s : List ℕ) (p : Place) → count_of s ≤ p.index → Says (Ok tt) s p (end_at s p.at) (place_after (end_at s p.at) s p)
 unfolding end_at resumed unless_refused entries_from
 says_end s p h =
-    cond_cases (λ t. Says outcome.Accepted s p t (place_after t s p)) (eqb p.at (length s))
+    cond_cases (λ t. Says (Ok tt) s p t (place_after t s p)) (eqb p.at (length s))
     (λ q. rw (none_left (count_of s) p.index h, q))
     (λ q. rw (none_left (count_of s) p.index h, q))
 
 says : (o : Outcome) (s : List ℕ) (p : Place)
     → Says o s p (step_unless o 0 (cond (ltb p.index (count_of s)) (entry_step s p) (end_at s p.at))) (place_after (step_unless o 0 (cond (ltb p.index (count_of s)) (entry_step s p) (end_at s p.at))) s p)
 unfolding resumed unless_refused entry_step
-says (outcome.Refused r) s p = refl
-says outcome.Accepted s p =
-    cond_cases (λ t. Says outcome.Accepted s p t (place_after t s p)) (ltb p.index (count_of s))
+says (Err r) s p = refl
+says (Ok tt) s p =
+    cond_cases (λ t. Says (Ok tt) s p t (place_after t s p)) (ltb p.index (count_of s))
     (λ q. says_entry s p (ltb-true _ _ q) _ refl)
     (λ q. says_end s p (ltb-false _ _ q))
 
@@ -202,11 +196,11 @@ stepped s p a e = subst (λ x. Says (first_of (list_checks s)) s p x.step x.plac
 
 -- A part of an entry that was found lies inside the list, and is that part of the entry's own record.
 stands : {o : Outcome} {s : List ℕ} {p q : Place} {f : Found} → Past o s p f q → (which : EntryPart)
-    → ((step_span (step.Entry f) which).at + (step_span (step.Entry f) which).len ≤ length s)
-    × (part_of s (step_span (step.Entry f) which).at (step_span (step.Entry f) which).len ≡ entry_part (record_at s p.at) which)
+    → ((step_span (Ok (Some f)) which).at + (step_span (Ok (Some f)) which).len ≤ length s)
+    × (part_of s (step_span (Ok (Some f)) which).at (step_span (Ok (Some f)) which).len ≡ entry_part (record_at s p.at) which)
 unfolding step_span found_at
 stands {s = s} {p = p} {f = f} past which =
-    let span = span_of (entry.Accepted f.entry) which in
+    let span = span_of (Ok f.entry) which in
     let inside : p.at + length_at s p.at ≤ length s = omega (arith, past.lies.low, past.lies.high) in
     let at : f.at ≡ p.at = ap (λ x. x.at) past.found in
     let own = part_inside (record_at s p.at) which in
@@ -218,11 +212,11 @@ pub span_inside : (s : List ℕ) (p : Place) (which : EntryPart) → (list_span 
 unfolding step_span arrived
 span_inside s p which = told (step_of s p) (stepped s p (advance_of s p) refl)
   where
-    told : (t : Step) → Says (first_of (list_checks s)) s p t (place_after t s p) → (step_span t which).at + (step_span t which).len ≤ length s
-    told (step.Entry f) past = (stands past which).0
-    told step.End said = omega arith
-    told (step.Refused r index) said = omega arith
+    told : (t : Result (Option Found) ListRefusal) → Says (first_of (list_checks s)) s p t (place_after t s p) → (step_span t which).at + (step_span t which).len ≤ length s
+    told (Ok (Some f)) past = (stands past which).0
+    told (Ok None) said = omega arith
+    told (ErrAt r index) said = omega arith
 
-pub part_own : (s : List ℕ) (p : Place) (f : Found) (which : EntryPart) → step_of s p ≡ step.Entry f → list_part s p which ≡ entry_part (record_at s p.at) which
+pub part_own : (s : List ℕ) (p : Place) (f : Found) (which : EntryPart) → step_of s p ≡ Ok (Some f) → list_part s p which ≡ entry_part (record_at s p.at) which
 unfolding arrived
 part_own s p f which e = rw e (stands (subst (λ t. Says (first_of (list_checks s)) s p t (place_after t s p)) e (stepped s p (advance_of s p) refl)) which).1

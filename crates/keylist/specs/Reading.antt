@@ -1,15 +1,13 @@
 -- Document 01, "Key List Entry and list": a list is a count and that many entries back to back.
-use Rattle.std.specs.Prelude.{ℕ, zero, suc, ◌+◌, ◌-◌, cond, ◌||◌, List, [], ◌∷◌, ◌++◌, ltb, eqb, length}
+use Rattle.std.specs.Prelude.{ℕ, zero, suc, ◌+◌, ◌-◌, cond, ◌||◌, List, [], ◌∷◌, ◌++◌, ltb, eqb, length, Result, Ok, Err}
+use Rattle.refusal.specs.declared.Refusal.{Refusal}
+use Rattle.keylist.specs.declared.ListRefusal.{ListRefusal}
 use Rattle.refusal.specs.declared.Refusal.TheVariants.{TooLong, Short, LengthsDisagree, BytesLeft}
 use Rattle.refusal.specs.Chain.{Check, ◌⇒◌, first_of, unless_refused}
 use Rattle.refusal.specs.Number.{number_of}
 use Rattle.wire.specs.declared.Span.{Span}
 use Rattle.wire.specs.Parts.{le_at, part_of}
 use Rattle.keyentry.specs.Reading.{entry_checks}
-use Rattle.keylist.specs.declared.Bounds.{Bounds}
-use Rattle.keylist.specs.declared.Bounds.TheVariants as bounds
-use Rattle.keylist.specs.declared.ListRead.{ListRead}
-use Rattle.keylist.specs.declared.ListRead.TheVariants.{Count, Refused}
 
 abbrev pub count_of : List ℕ → ℕ
 count_of s = le_at 4 s 0
@@ -33,40 +31,40 @@ extent_checks s at =
     ∷ []
 
 -- where the record at a place lies, by that rule
-unfoldable pub extent_of : List ℕ → ℕ → Bounds
-extent_of s at = unless_refused bounds.Refused (first_of (extent_checks s at)) (bounds.Record (record { at = at; len = length_at s at }))
+unfoldable pub extent_of : List ℕ → ℕ → Result Span Refusal
+extent_of s at = unless_refused Err (first_of (extent_checks s at)) (Ok (record { at = at; len = length_at s at }))
 
 -- document 01's numbers: 0 and the record's place; or the refusal's number, and zeros
-unfoldable pub bounds_number : Bounds → ℕ
-bounds_number (bounds.Record span) = 0
-bounds_number (bounds.Refused r) = number_of r
+unfoldable pub bounds_number : Result Span Refusal → ℕ
+bounds_number (Ok span) = 0
+bounds_number (Err r) = number_of r
 
-unfoldable pub bounds_span : Bounds → Span
-bounds_span (bounds.Record span) = span
-bounds_span (bounds.Refused r) = record { at = 0; len = 0 }
+unfoldable pub bounds_span : Result Span Refusal → Span
+bounds_span (Ok span) = span
+bounds_span (Err r) = record { at = 0; len = 0 }
 
 -- then the entry's checks
 unfoldable pub place_checks : List ℕ → ℕ → List Check
 place_checks s at = extent_checks s at ++ entry_checks (record_at s at)
 
 -- n entries from a place on, in turn; each refusal given for an entry tells its index; last 22, which tells none
-unfoldable pub entries_from : ℕ → List ℕ → ℕ → ℕ → ListRead
-entries_from zero s at index = cond (eqb at (length s)) (Count index) (Refused BytesLeft 0)
-entries_from (suc n) s at index = unless_refused (λ r. Refused r index) (first_of (place_checks s at)) (entries_from n s (at + length_at s at) (index + 1))
+unfoldable pub entries_from : ℕ → List ℕ → ℕ → ℕ → Result ℕ ListRefusal
+entries_from zero s at index = cond (eqb at (length s)) (Ok index) (ErrAt BytesLeft 0)
+entries_from (suc n) s at index = unless_refused (λ r. ErrAt r index) (first_of (place_checks s at)) (entries_from n s (at + length_at s at) (index + 1))
 
 -- what the judge answers: 1, 2 (which tell no index), then the entries from byte 4 on
-unfoldable pub list_of : List ℕ → ListRead
-list_of s = unless_refused (λ r. Refused r 0) (first_of (list_checks s)) (entries_from (count_of s) s 4 0)
+unfoldable pub list_of : List ℕ → Result ℕ ListRefusal
+list_of s = unless_refused (λ r. ErrAt r 0) (first_of (list_checks s)) (entries_from (count_of s) s 4 0)
 
 -- document 01's numbers: 0 and the count; or the refusal's number, no count, and the index told
-unfoldable pub list_number : ListRead → ℕ
-list_number (Count count) = 0
-list_number (Refused r index) = number_of r
+unfoldable pub list_number : Result ℕ ListRefusal → ℕ
+list_number (Ok count) = 0
+list_number (ErrAt r index) = number_of r
 
-unfoldable pub list_count : ListRead → ℕ
-list_count (Count count) = count
-list_count (Refused r index) = 0
+unfoldable pub list_count : Result ℕ ListRefusal → ℕ
+list_count (Ok count) = count
+list_count (ErrAt r index) = 0
 
-unfoldable pub list_index : ListRead → ℕ
-list_index (Count count) = 0
-list_index (Refused r index) = index
+unfoldable pub list_index : Result ℕ ListRefusal → ℕ
+list_index (Ok count) = 0
+list_index (ErrAt r index) = index

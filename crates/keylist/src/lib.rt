@@ -70,10 +70,10 @@ pub fn next_step(list: &[u8], place: Place) -> Advance
     ensures { result ≡ advance_of list.now place }
 {
     if LIMIT < list.len() {
-        return stay(Step::Refused(Refusal::TooLong, 0), place);
+        return stay(ErrAt(Refusal::TooLong, 0), place);
     }
     if list.len() < 4 {
-        return stay(Step::Refused(Refusal::Short, 0), place);
+        return stay(ErrAt(Refusal::Short, 0), place);
     }
     if le32_at(list, 0) <= place.index {
         return finish(list, place);
@@ -81,16 +81,16 @@ pub fn next_step(list: &[u8], place: Place) -> Advance
     let at = place.at;
     let index = place.index;
     match extent(list, at) {
-        Bounds::Refused(refusal) => stay(Step::Refused(refusal, index), place),
-        Bounds::Record(span) => match keyentry::read(wire::part(list, span)) {
-            EntryRead::Accepted(entry) => Advance {
-                step: Step::Entry(Found { index, at, entry }),
+        Err(refusal) => stay(ErrAt(refusal, index), place),
+        Ok(span) => match keyentry::read(wire::part(list, span)) {
+            Ok(entry) => Advance {
+                step: Ok(Some(Found { index, at, entry })),
                 place: Place {
                     at: at + span.len,
                     index: index + 1,
                 },
             },
-            EntryRead::Refused(refusal) => stay(Step::Refused(refusal, index), place),
+            Err(refusal) => stay(ErrAt(refusal, index), place),
         },
     }
 }
@@ -102,9 +102,9 @@ pub fn part(list: &[u8], place: Place, which: EntryPart) -> &[u8]
 {
     let step = next_step(list, place).step;
     match step {
-        Step::Entry(found) => {
+        Ok(Some(found)) => {
             let entry = found.entry;
-            let span = EntryRead::Accepted(entry).span(which);
+            let span = Ok(entry).span(which);
             wire::part(
                 list,
                 Span {
@@ -113,8 +113,8 @@ pub fn part(list: &[u8], place: Place, which: EntryPart) -> &[u8]
                 },
             )
         }
-        Step::End => wire::part(list, Span { at: 0, len: 0 }),
-        Step::Refused(_, _) => wire::part(list, Span { at: 0, len: 0 }),
+        Ok(None) => wire::part(list, Span { at: 0, len: 0 }),
+        ErrAt(_, _) => wire::part(list, Span { at: 0, len: 0 }),
     }
 }
 
@@ -125,17 +125,17 @@ pub fn extent(list: &[u8], at: usize) -> Bounds
     ensures inside { (bounds_span result).at + (bounds_span result).len ≤ length list.now }
 {
     if list.len() < at {
-        return Bounds::Refused(Refusal::Short);
+        return Err(Refusal::Short);
     }
     let left = list.len() - at;
     if left < 20 {
-        return Bounds::Refused(Refusal::Short);
+        return Err(Refusal::Short);
     }
     let len = le32_at(list, at) as usize;
     if (len < 20) | (left < len) {
-        return Bounds::Refused(Refusal::LengthsDisagree);
+        return Err(Refusal::LengthsDisagree);
     }
-    Bounds::Record(Span { at, len })
+    Ok(Span { at, len })
 }
 
 // Behind the last entry: the end, or 22 where bytes are left.
@@ -143,9 +143,9 @@ fn finish(list: &[u8], place: Place) -> Advance
     ensures { result ≡ arrived list.now place (end_at list.now place.at) }
 {
     if place.at == list.len() {
-        return stay(Step::End, place);
+        return stay(Ok(None), place);
     }
-    stay(Step::Refused(Refusal::BytesLeft, 0), place)
+    stay(ErrAt(Refusal::BytesLeft, 0), place)
 }
 
 // A final step: the place stays.
@@ -160,10 +160,10 @@ fn judge_at(list: &[u8], at: usize) -> Bounds
     ensures { result ≡ judged_at list.now at }
 {
     match extent(list, at) {
-        Bounds::Refused(refusal) => Bounds::Refused(refusal),
-        Bounds::Record(span) => match keyentry::read(wire::part(list, span)) {
-            EntryRead::Accepted(_) => Bounds::Record(span),
-            EntryRead::Refused(refusal) => Bounds::Refused(refusal),
+        Err(refusal) => Err(refusal),
+        Ok(span) => match keyentry::read(wire::part(list, span)) {
+            Ok(_) => Ok(span),
+            Err(refusal) => Err(refusal),
         },
     }
 }
@@ -173,27 +173,27 @@ pub fn judge(list: &[u8]) -> ListRead
     ensures { result ≡ list_of list.now }
 {
     if LIMIT < list.len() {
-        return ListRead::Refused(Refusal::TooLong, 0);
+        return ErrAt(Refusal::TooLong, 0);
     }
     if list.len() < 4 {
-        return ListRead::Refused(Refusal::Short, 0);
+        return ErrAt(Refusal::Short, 0);
     }
     let count = le32_at(list, 0);
     let mut at = 4;
     let mut index = 0;
     while index < count {
         match judge_at(list, at) {
-            Bounds::Record(span) => {
+            Ok(span) => {
                 at += span.len;
                 index += 1;
             }
-            Bounds::Refused(refusal) => {
-                return ListRead::Refused(refusal, index);
+            Err(refusal) => {
+                return ErrAt(refusal, index);
             }
         }
     }
     if at == list.len() {
-        return ListRead::Count(index);
+        return Ok(index);
     }
-    ListRead::Refused(Refusal::BytesLeft, 0)
+    ErrAt(Refusal::BytesLeft, 0)
 }

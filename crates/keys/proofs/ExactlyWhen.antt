@@ -1,7 +1,7 @@
 -- Keys are accepted exactly when their lengths are well formed.
 use Rattle.lemmas.proofs.Basics.{ℕ, Bool, true, false, cond, not, ◌&&◌, ◌||◌, true≢false, ◌⊎◌, inl, inr, ⊎_elim, ◌≡◌, refl, ap, eqb, eq-eqb, ne_eqb, eqb-true, eqb-false}
+use Rattle.std.specs.Prelude.{Ok}
 use Rattle.lemmas.proofs.Cases.{by_cases, not-false, both_true, true-and, or-true, true-or}
-use Rattle.refusal.specs.declared.Outcome.TheVariants.{Accepted}
 use Rattle.refusal.specs.Chain.{first_of}
 use Rattle.refusal.proofs.Chains.{accepted_pass, pass_accepted}
 use Rattle.gkid.specs.declared.Gkid.{Gkid}
@@ -53,7 +53,7 @@ rule_l2 public at publicLen len (inr (inl f)) = rw (f.1.0, ne_eqb at.l2.0 31 f.1
 rule_l2 public at publicLen len (inr (inr f)) = rw f.1 (true-or (eqb len 0) (eq-eqb len publicLen f.0))
 
 -- Accepted, so well formed.
-pub keys_well_formed : (public : Bool) (at : Gkid) (publicLen l1Len l2Len : ℕ) → first_of (key_checks public at publicLen l1Len l2Len) ≡ Accepted
+pub keys_well_formed : (public : Bool) (at : Gkid) (publicLen l1Len l2Len : ℕ) → first_of (key_checks public at publicLen l1Len l2Len) ≡ Ok tt
     → WellFormed public at publicLen l1Len l2Len
 unfolding key_checks keys_allowed
 keys_well_formed public at publicLen l1Len l2Len e =
@@ -62,7 +62,7 @@ keys_well_formed public at publicLen l1Len l2Len e =
 
 -- Well formed, so accepted.
 pub well_formed_keys : (public : Bool) (at : Gkid) (publicLen l1Len l2Len : ℕ) → WellFormed public at publicLen l1Len l2Len
-    → first_of (key_checks public at publicLen l1Len l2Len) ≡ Accepted
+    → first_of (key_checks public at publicLen l1Len l2Len) ≡ Ok tt
 unfolding key_checks keys_allowed
 well_formed_keys public at publicLen l1Len l2Len w =
     pass_accepted _ (ap not (true-and (rule_l1 public at l1Len w.l1_key) (rule_l2 public at publicLen l2Len w.l2_key)), tt)

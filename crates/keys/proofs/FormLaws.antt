@@ -1,9 +1,9 @@
 -- Laws of the key rule: no key at all is allowed, what it allows of seed keys and asks of a public one, and that the form for seed rights is
 -- never refused by it.
 use Rattle.lemmas.proofs.Basics.{ℕ, ◌<◌, arith, Bool, true, false, cond, not, ◌&&◌, ◌||◌, and-false, true≢false, false≢true, inl, ⊎_elim, ◌≡◌, refl, sym, ap, ap₂, ◌∙◌, eqb}
+use Rattle.std.specs.Prelude.{Ok, Err}
 use Rattle.lemmas.proofs.Cases.{cond_cases}
 use Rattle.refusal.specs.declared.Refusal.TheVariants.{IndexAbove31}
-use Rattle.refusal.specs.declared.Outcome.TheVariants.{Accepted, Refused}
 use Rattle.refusal.specs.Chain.{first_of}
 use Rattle.refusal.proofs.Chains.{pass_accepted}
 use Rattle.gkid.specs.declared.Gkid.{Gkid}
@@ -18,7 +18,7 @@ use Rattle.keys.specs.Forms.{keys_of, seed_form, seed_key_length, seed_checks}
 use Rattle.keys.proofs.ExactlyWhen.{well_formed_keys}
 
 -- An envelope may carry no key.
-pub none-accepted : (public : Bool) (at : Gkid) (publicLen : ℕ) → first_of (key_checks public at publicLen 0 0) ≡ Accepted
+pub none-accepted : (public : Bool) (at : Gkid) (publicLen : ℕ) → first_of (key_checks public at publicLen 0 0) ≡ Ok tt
 none-accepted public at publicLen = well_formed_keys public at publicLen 0 0 (record { l1_key = inl refl; l2_key = inl refl })
 
 -- An envelope that carries both keys is a seed envelope, and not at L2 = 31.
@@ -55,7 +55,7 @@ seed_64 false at publicLen l1Len l2Len w = let long = seed_lengths w in (λ k. s
 
 -- A seed envelope at that identifier with just the seed keys is allowed too.
 pub seed_alone : (public : Bool) (at : Gkid) (publicLen l1Len l2Len : ℕ) → WellFormed public at publicLen l1Len l2Len
-    → first_of (key_checks false at 0 (seed_key_length (seed_keys_of public l1Len l2Len).l1) (seed_key_length (seed_keys_of public l1Len l2Len).l2)) ≡ Accepted
+    → first_of (key_checks false at 0 (seed_key_length (seed_keys_of public l1Len l2Len).l1) (seed_key_length (seed_keys_of public l1Len l2Len).l2)) ≡ Ok tt
 seed_alone true at publicLen l1Len l2Len w = none-accepted false at 0
 seed_alone false at publicLen l1Len l2Len w =
     let long = seed_lengths w in
@@ -80,7 +80,7 @@ unfolding seed_form
 form_cases P at last first other = cond_cases P (eqb at.l2.0 31) last (λ l. cond_cases P (eqb at.l1.0 0) (first l) (other l))
 
 -- The form for seed rights is not refused.
-pub seed_form-accepted : (at : Gkid) → InGroup at → first_of (seed_checks (keys_of (seed_form at)) at) ≡ Accepted
+pub seed_form-accepted : (at : Gkid) → InGroup at → first_of (seed_checks (keys_of (seed_form at)) at) ≡ Ok tt
 unfolding keys_of seed_checks key_checks
 seed_form-accepted at g =
     pass_accepted _ (
@@ -95,6 +95,6 @@ seed_form-accepted at g =
     )
 
 -- No key at all: 5 where an index is above 31, never 11.
-pub keyless_checks : (at : Gkid) → first_of (seed_checks (keys_of Keyless) at) ≡ cond (index_above_31 at) (Refused IndexAbove31) Accepted
+pub keyless_checks : (at : Gkid) → first_of (seed_checks (keys_of Keyless) at) ≡ cond (index_above_31 at) (Err IndexAbove31) (Ok tt)
 unfolding seed_checks keys_of first_of
-keyless_checks at = ap (cond (index_above_31 at) (Refused IndexAbove31)) (none-accepted false at 0)
+keyless_checks at = ap (cond (index_above_31 at) (Err IndexAbove31)) (none-accepted false at 0)

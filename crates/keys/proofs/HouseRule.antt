@@ -1,8 +1,8 @@
 -- Document 02, No. 4: what the house rule changes of the published one. A seed envelope's keys are judged as before, and so is every form.
 use Rattle.lemmas.proofs.Basics.{ℕ, Bool, true, false, cond, ◌&&◌, ◌||◌, ◌≡◌, refl, sym, ◌∙◌, eqb, eqb-true, eqb-false}
+use Rattle.std.specs.Prelude.{Ok}
 use mathlib.Core.Bool.{or-false}
 use Rattle.lemmas.proofs.Cases.{not-false, both_true}
-use Rattle.refusal.specs.declared.Outcome.TheVariants.{Accepted}
 use Rattle.refusal.specs.Chain.{first_of}
 use Rattle.refusal.proofs.Chains.{accepted_pass}
 use Rattle.gkid.specs.declared.Gkid.{Gkid}
@@ -38,7 +38,7 @@ pub record HouseOnly (public : Bool) (at : Gkid) (publicLen l1Len l2Len : ℕ) :
   pub own_key : l2Len ≡ publicLen
   pub some_key : l2Len ≡ 0 → ⊥
 
-pub house_only : (public : Bool) (at : Gkid) (publicLen l1Len l2Len : ℕ) → first_of (key_checks public at publicLen l1Len l2Len) ≡ Accepted
+pub house_only : (public : Bool) (at : Gkid) (publicLen l1Len l2Len : ℕ) → first_of (key_checks public at publicLen l1Len l2Len) ≡ Ok tt
     → published_allowed public at publicLen l1Len l2Len ≡ false → HouseOnly public at publicLen l1Len l2Len
 unfolding key_checks published_allowed l1_key_allowed published_l2_key_allowed
 house_only public at publicLen l1Len l2Len e against =

@@ -77,7 +77,7 @@ pub fn judge(
     ensures { result ≡ first_of (key_checks public at public_length l1_length l2_length) }
 {
     let allowed = keys_allowed(public, at, public_length, l1_length, l2_length);
-    Outcome::Accepted.refuse_if(!allowed, Refusal::KeyLength)
+    Ok(()).refuse_if(!allowed, Refusal::KeyLength)
 }
 
 // A key written into the part of the output where it stands.
@@ -142,11 +142,11 @@ impl SeedKeys {
         ensures { result ≡ first_of (seed_checks self at) }
     {
         if at.index_above_31() {
-            return Outcome::Refused(Refusal::IndexAbove31);
+            return Err(Refusal::IndexAbove31);
         }
         if self.are_barred(at) {
-            return Outcome::Refused(Refusal::KeyLength);
+            return Err(Refusal::KeyLength);
         }
-        Outcome::Accepted
+        Ok(())
     }
 }

@@ -1,9 +1,9 @@
 -- Laws of the reach of a form: a refusal reaches nothing, and nor does a form with no seed key.
 use Rattle.lemmas.proofs.Basics.{Bool, true, false, cond, ◌≡◌, refl, sym}
+use Rattle.std.specs.Prelude.{Ok, Err}
 use Rattle.refusal.specs.declared.Refusal.{Refusal}
 use Rattle.refusal.specs.declared.Refusal.TheVariants.{IndexAbove31}
-use Rattle.refusal.specs.declared.Outcome.{Outcome}
-use Rattle.refusal.specs.declared.Outcome.TheVariants.{Accepted, Refused}
+use Rattle.refusal.specs.Outcome.{Outcome}
 use Rattle.refusal.specs.Chain.{first_of, unless_refused}
 use Rattle.refusal.proofs.Chains.{never_both}
 use Rattle.gkid.specs.declared.Gkid.{Gkid}
@@ -21,13 +21,13 @@ use Rattle.reach.specs.Maps.{row_of, map_of, empty_map, total_of}
 use Rattle.reach.specs.Reaches.{map_reach, refused_reach, keys_reach, form_reach, reach_total}
 
 -- A refusal reaches nothing, and its total is 0.
-pub refused_nothing : (form : Form) (at : Gkid) (r : Refusal) → (form_reach form at).outcome ≡ Refused r → form_reach form at ≡ refused_reach r
+pub refused_nothing : (form : Form) (at : Gkid) (r : Refusal) → (form_reach form at).outcome ≡ Err r → form_reach form at ≡ refused_reach r
 unfolding form_reach keys_reach unless_refused refused_reach
 refused_nothing form at r = of (first_of (seed_checks (keys_of form) at))
   where
-    of : (o : Outcome) → (unless_refused refused_reach o (map_reach (keys_of form) at)).outcome ≡ Refused r → unless_refused refused_reach o (map_reach (keys_of form) at) ≡ refused_reach r
-    of Accepted e = absurd (never_both (sym e))
-    of (Refused q) e = cc
+    of : (o : Outcome) → (unless_refused refused_reach o (map_reach (keys_of form) at)).outcome ≡ Err r → unless_refused refused_reach o (map_reach (keys_of form) at) ≡ refused_reach r
+    of (Ok tt) e = absurd (never_both (sym e))
+    of (Err q) e = cc
 
 pub refused_total : (r : Refusal) → reach_total (refused_reach r) ≡ 0
 unfolding reach_total refused_reach total_of empty_map count bit_at bit
@@ -39,11 +39,11 @@ unfolding form_reach keys_reach
 form_as_published form at = rw (forms_as_published (keys_of form) at)
 
 -- Keyless and PUBLIC: 5 where an index is above 31, never 11, and an empty map.
-pub keyless_reach : (at : Gkid) → form_reach Keyless at ≡ record { outcome = cond (index_above_31 at) (Refused IndexAbove31) Accepted; rows = empty_map }
+pub keyless_reach : (at : Gkid) → form_reach Keyless at ≡ record { outcome = cond (index_above_31 at) (Err IndexAbove31) (Ok tt); rows = empty_map }
 unfolding form_reach unless_refused keys_reach refused_reach keys_of map_of table row_of row_where bit reaches empty_map
 keyless_reach at = rw (keyless_checks at) (either (index_above_31 at))
   where
-    either : (b : Bool) → unless_refused refused_reach (cond b (Refused IndexAbove31) Accepted) (map_reach (keys_of Keyless) at) ≡ record { outcome = cond b (Refused IndexAbove31) Accepted; rows = empty_map }
+    either : (b : Bool) → unless_refused refused_reach (cond b (Err IndexAbove31) (Ok tt)) (map_reach (keys_of Keyless) at) ≡ record { outcome = cond b (Err IndexAbove31) (Ok tt); rows = empty_map }
     either true = refl
     either false = refl
 

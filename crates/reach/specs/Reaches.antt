@@ -1,7 +1,6 @@
 -- Document 01, "Reach, and the two envelopes": what is reached, by keys that are present or by a form.
-use Rattle.std.specs.Prelude.{ℕ, Bool, List}
+use Rattle.std.specs.Prelude.{ℕ, Bool, List, Ok, Err}
 use Rattle.refusal.specs.declared.Refusal.{Refusal}
-use Rattle.refusal.specs.declared.Outcome.TheVariants.{Accepted, Refused}
 use Rattle.refusal.specs.Chain.{first_of, unless_refused}
 use Rattle.refusal.specs.Number.{outcome_number}
 use Rattle.gkid.specs.declared.Gkid.{Gkid}
@@ -13,11 +12,11 @@ use Rattle.reach.specs.Maps.{map_of, empty_map, in_map, total_of}
 
 -- what keys reach from an identifier, whatever its indices: the map
 abbrev pub map_reach : SeedKeys → Gkid → Reach
-map_reach keys at = record { outcome = Accepted; rows = map_of keys at }
+map_reach keys at = record { outcome = Ok tt; rows = map_of keys at }
 
 -- a refusal has zeros in place of the rows
 unfoldable pub refused_reach : Refusal → Reach
-refused_reach r = record { outcome = Refused r; rows = empty_map }
+refused_reach r = record { outcome = Err r; rows = empty_map }
 
 -- the reach of a seed envelope at an identifier with just these keys; refused 5, then 11, where such an envelope would be
 unfoldable pub keys_reach : SeedKeys → Gkid → Reach

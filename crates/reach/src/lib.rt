@@ -110,11 +110,11 @@ impl Reach {
     pub fn of(keys: SeedKeys, at: Gkid) -> Reach
         ensures { result ≡ keys_reach keys at }
     {
-        if let Outcome::Refused(refusal) = keys.judge(at) {
+        if let Err(refusal) = keys.judge(at) {
             return Reach::refused(refusal);
         }
         Reach {
-            outcome: Outcome::Accepted,
+            outcome: Ok(()),
             rows: map(keys, at),
         }
     }
@@ -124,7 +124,7 @@ impl Reach {
         ensures { result ≡ refused_reach refusal }
     {
         Reach {
-            outcome: Outcome::Refused(refusal),
+            outcome: Err(refusal),
             rows: [0; 32],
         }
     }

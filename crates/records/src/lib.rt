@@ -1,20 +1,10 @@
-// What the readers and writers of records share: the limit of 65,535 bytes, lengths that are added without wrapping, and a
-// writer's answer.
+// What the readers and writers of records share: the limit of 65,535 bytes, and lengths that are added without wrapping.
 #![tactic(auto)]
 
 ghost use Rattle.std.specs.Prelude.{◌≡◌, ◌+◌, min};
 
-use refusal::Refusal;
-
 // Document 01, refusal 1: a record or a list is at most this long.
 pub const LIMIT: usize = 65535;
-
-// What a writer answers: the record's length, or the refusal.
-#[derive(Clone, Copy)]
-pub enum Written {
-    Length(usize),
-    Refused(Refusal),
-}
 
 // The sum of two lengths, or 65,536 where it is over the limit.
 pub fn grown(len: usize, more: usize) -> usize

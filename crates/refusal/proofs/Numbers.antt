@@ -1,9 +1,9 @@
 -- Laws of the refusal numbers: no two refusals share one, none is 0, and an outcome's number is 0 exactly where it is accepted.
 use Rattle.lemmas.proofs.Basics.{ℕ, arith, cond, List, [], ◌∷◌, ◌≡◌, refl, sym, ap, ◌∙◌, eqb}
+use Rattle.std.specs.Prelude.{Ok, Err}
 use Rattle.refusal.specs.declared.Refusal.{Refusal}
 use Rattle.refusal.specs.declared.Refusal.TheVariants.{TooLong, Short, LengthsDisagree, WrongMark, IndexAbove31, Misplaced, EmptyItem, Overlap, UnusedRun, MalformedText, KeyLength, MalformedSid, NoRoom, IndexOutOfRange, MixedIndices, VerdictNo, LaterThanNow, RightsTooLow, NoRootKey, TableLength, StartPastTime, BytesLeft, NeitherServes, UnpairedSurrogate, WrongShifts, MalformedRecord}
-use Rattle.refusal.specs.declared.Outcome.{Outcome}
-use Rattle.refusal.specs.declared.Outcome.TheVariants.{Accepted, Refused}
+use Rattle.refusal.specs.Outcome.{Outcome}
 use Rattle.refusal.specs.Number.{number_of, outcome_number}
 
 -- document 01's table
@@ -58,7 +58,11 @@ unfolding refusal_at searched rows number_of
 number_not-zero r e = let one : 1 ≡ number_of r = ap (λ n. number_of (refusal_at n)) (sym e) ∙ ap number_of (found r) in omega arith
 
 -- Accepted is 0, and nothing else is.
-pub zero-accepted : (o : Outcome) → outcome_number o ≡ 0 → o ≡ Accepted
+pub accepted-zero : outcome_number (Ok tt) ≡ 0
 unfolding outcome_number
-zero-accepted Accepted e = refl
-zero-accepted (Refused r) e = absurd (number_not-zero r e)
+accepted-zero = refl
+
+pub zero-accepted : (o : Outcome) → outcome_number o ≡ 0 → o ≡ Ok tt
+unfolding outcome_number
+zero-accepted (Ok tt) e = refl
+zero-accepted (Err r) e = absurd (number_not-zero r e)

@@ -1,9 +1,8 @@
 -- Document 01, "Refusal numbers", with the rows that document 02 adds: the number of each refusal; accepted is 0.
-use Rattle.std.specs.Prelude.{ℕ}
+use Rattle.std.specs.Prelude.{ℕ, Ok, Err}
 use Rattle.refusal.specs.declared.Refusal.{Refusal}
 use Rattle.refusal.specs.declared.Refusal.TheVariants.{TooLong, Short, LengthsDisagree, WrongMark, IndexAbove31, Misplaced, EmptyItem, Overlap, UnusedRun, MalformedText, KeyLength, MalformedSid, NoRoom, IndexOutOfRange, MixedIndices, VerdictNo, LaterThanNow, RightsTooLow, NoRootKey, TableLength, StartPastTime, BytesLeft, NeitherServes, UnpairedSurrogate, WrongShifts, MalformedRecord}
-use Rattle.refusal.specs.declared.Outcome.{Outcome}
-use Rattle.refusal.specs.declared.Outcome.TheVariants.{Accepted, Refused}
+use Rattle.refusal.specs.Outcome.{Outcome}
 
 unfoldable pub number_of : Refusal → ℕ
 number_of TooLong = 1
@@ -34,5 +33,5 @@ number_of WrongShifts = 25
 number_of MalformedRecord = 26
 
 unfoldable pub outcome_number : Outcome → ℕ
-outcome_number Accepted = 0
-outcome_number (Refused r) = number_of r
+outcome_number (Ok tt) = 0
+outcome_number (Err r) = number_of r

@@ -1,11 +1,11 @@
 -- A line fits in its room, and the total's line in a line.
 use Rattle.lemmas.proofs.Basics.{ℕ, ◌≤◌, arith, List, [], ◌≡◌, ◌∙◌, length, take, length-take}
+use Rattle.std.specs.Prelude.{Result, Err}
+use Rattle.refusal.specs.declared.Refusal.{Refusal}
 use Rattle.refusal.specs.Number.{number_of}
 use Rattle.wire.specs.Parts.{part_of}
 use Rattle.wire.proofs.Parts.{part_in}
 use Rattle.wire.proofs.Writing.{length-joined}
-use Rattle.getkey.specs.declared.Answer.{Answer}
-use Rattle.getkey.specs.declared.Answer.TheVariants.{Granted, Create, Refused}
 use Rattle.tally.specs.declared.Tally.{Tally}
 use Rattle.line.specs.Text.{room, laid}
 use Rattle.line.proofs.Decimals.{length_decimal}
@@ -16,15 +16,15 @@ use Rattle.report.specs.Lines.{answer_words, line_words, line_of, total_words, t
 use Rattle.report.specs.Replaying.{line_room}
 
 -- No line is longer than its room.
-pub length_line : (n : ℕ) (a : Answer) → length (line_of n a) ≤ line_room
+pub length_line : (n : ℕ) (a : Result OkRow Refusal) → length (line_of n a) ≤ line_room
 unfolding line_of line_words answer_words identifier_words refused_words
-length_line n (Granted at form row) =
+length_line n (OkRow at form row) =
     rw length-joined
     (omega (arith, length_decimal 20 n, length_decimal 20 at.l0.0, length_decimal 20 at.l1.0, length_decimal 20 at.l2.0, length_form form, length_decimal 20 row))
-length_line n (Create at form) =
+length_line n (OkCreate at form) =
     rw length-joined
     (omega (arith, length_decimal 20 n, length_decimal 20 at.l0.0, length_decimal 20 at.l1.0, length_decimal 20 at.l2.0, length_form form))
-length_line n (Refused r) = rw length-joined (omega (arith, length_decimal 20 n, length_decimal 20 (number_of r)))
+length_line n (Err r) = rw length-joined (omega (arith, length_decimal 20 n, length_decimal 20 (number_of r)))
 
 pub length-total : (t : Tally) → length (total_line t) ≤ line_room
 unfolding total_line total_words

@@ -1,14 +1,15 @@
 -- The loop of a replay: what is done so far, and that what is left gives the whole.
 use Rattle.lemmas.proofs.Basics.{ℕ, ◌+◌, ◌-◌, ◌*◌, ◌≤◌, ◌<◌, min, arith, sub-zero, append-nil, append_assoc, Bool, true, false, cond, List, [], ◌∷◌, ◌++◌, ◌≡◌, refl, sym, ap, ap₂, ◌∙◌, leb, length, take, drop, take_all, length-append, length-drop, drop-drop, drop_of_length-le, lt-ltb, le-ltb, leb-true, leb-false}
+use Rattle.std.specs.Prelude.{Result, None}
+use Rattle.refusal.specs.declared.Refusal.{Refusal}
+use Rattle.getkey.specs.declared.Granted.{Granted}
 use Rattle.lemmas.proofs.Cases.{by_cases}
 use Rattle.wire.specs.Parts.{onto}
 use Rattle.wire.proofs.Parts.{rest_whole}
 use Rattle.wire.proofs.Writing.{onto-none, length-onto}
-use Rattle.getkey.specs.declared.Answer.{Answer}
 use Rattle.line.specs.Text.{buffer, put_all}
 use Rattle.line.proofs.Lines.{put-pieces}
 use Rattle.report.specs.declared.State.{State}
-use Rattle.report.specs.declared.Stepped.TheVariants as step
 use Rattle.report.specs.declared.Progress.{Progress}
 use Rattle.report.specs.declared.Stopped.{Stopped}
 use Rattle.report.specs.declared.Stopped.TheVariants.{Records, Room, Full}
@@ -19,24 +20,24 @@ use Rattle.report.proofs.Lines.{length_line}
 use Rattle.report.proofs.Chunks.{records_next, records-none}
 
 -- What a step says of the record.
-pub record Took (table : List ℕ) (st : State) (s : List ℕ) (n : ℕ) (a : Answer) (next : State) : Type 0 where
+pub record Took (table : List ℕ) (st : State) (s : List ℕ) (n : ℕ) (a : Result Granted Refusal) (next : State) : Type 0 where
   pub counted : counts table st s ≡ true
   pub number : n ≡ st.next
   pub answer : a ≡ answer_to table s
   pub state : next ≡ after table st (s ∷ [])
 
-step_took : (table : List ℕ) (st : State) (s : List ℕ) {n : ℕ} {a : Answer} {next : State} → step_of table st s ≡ step.Line n a next → Took table st s n a next
+step_took : (table : List ℕ) (st : State) (s : List ℕ) {n : ℕ} {a : Result Granted Refusal} {next : State} → step_of table st s ≡ SomeLine n a next → Took table st s n a next
 unfolding step_of
 step_took table st s {n} {a} {next} e =
-    by_cases (λ t. cond t (step.Line st.next (answer_to table s) (after table st (s ∷ []))) step.Full ≡ step.Line n a next → Took table st s n a next) (counts table st s)
+    by_cases (λ t. cond t (SomeLine st.next (answer_to table s) (after table st (s ∷ []))) None ≡ SomeLine n a next → Took table st s n a next) (counts table st s)
     (λ q w. record { counted = q; number = cc; answer = cc; state = cc })
     (λ q w. let z : ◌≡◌ {A = ℕ} 0 1 = cc in absurd (omega arith))
     e
 
-step_full : (table : List ℕ) (st : State) (s : List ℕ) → step_of table st s ≡ step.Full → counts table st s ≡ false
+step_full : (table : List ℕ) (st : State) (s : List ℕ) → step_of table st s ≡ None → counts table st s ≡ false
 unfolding step_of
 step_full table st s e =
-    by_cases (λ t. cond t (step.Line st.next (answer_to table s) (after table st (s ∷ []))) step.Full ≡ step.Full → t ≡ false) (counts table st s)
+    by_cases (λ t. cond t (SomeLine st.next (answer_to table s) (after table st (s ∷ []))) None ≡ None → t ≡ false) (counts table st s)
     (λ q w. let z : ◌≡◌ {A = ℕ} 0 1 = cc in absurd (omega arith))
     (λ q w. refl)
     e
@@ -76,7 +77,7 @@ replaying_start table chunk lent ends st =
     }
 
 -- A record whose line is sure to fit, and which counts, is the first of what is replayed.
-replay_one : (table : List ℕ) (st : State) (s : List ℕ) (records : List (List ℕ)) (room : ℕ) {n : ℕ} {a : Answer} {next : State} → line_room ≤ room → Took table st s n a next
+replay_one : (table : List ℕ) (st : State) (s : List ℕ) (records : List (List ℕ)) (room : ℕ) {n : ℕ} {a : Result Granted Refusal} {next : State} → line_room ≤ room → Took table st s n a next
     → replay_of table st (s ∷ records) room ≡ behind 1 (line_of n a) (replay_of table next records (room - length (line_of n a)))
 unfolding replay_of
 replay_one table st s records room enough t =
@@ -96,8 +97,8 @@ module _ {table chunk lent : List ℕ} {ends : Bool} {first : State} {out left :
   left_within = omega (arith, ap length r.rest, length-drop (37 * r.passed) chunk)
 
   -- One record more.
-  pub replaying_again : {n : ℕ} {a : Answer} {next : State} {now : List ℕ} {end : ℕ} → has_record ends (length left) ≡ true → line_room ≤ length lent - written
-      → step_of table st (take 37 left) ≡ step.Line n a next → buffer now end ≡ put_all (buffer out written) (line_words n a)
+  pub replaying_again : {n : ℕ} {a : Result Granted Refusal} {next : State} {now : List ℕ} {end : ℕ} → has_record ends (length left) ≡ true → line_room ≤ length lent - written
+      → step_of table st (take 37 left) ≡ SomeLine n a next → buffer now end ≡ put_all (buffer out written) (line_words n a)
       → Replaying table chunk lent ends first now (drop 37 left) next end
   unfolding line_of
   replaying_again {n} {a} {next} {now} {end} has enough stepped put =
@@ -153,7 +154,7 @@ module _ {table chunk lent : List ℕ} {ends : Bool} {first : State} {out left :
   unfolding replay_of
   no_room has small = ap (λ rs. replay_of table st rs (length lent - written)) (records_next ends left has) ∙ rw (lt-ltb (length lent - written) line_room small)
 
-  pub no_count : has_record ends (length left) ≡ true → line_room ≤ length lent - written → step_of table st (take 37 left) ≡ step.Full
+  pub no_count : has_record ends (length left) ≡ true → line_room ≤ length lent - written → step_of table st (take 37 left) ≡ None
       → replay_of table st (records_of ends left) (length lent - written) ≡ halt Full st
   unfolding replay_of
   no_count has enough full =

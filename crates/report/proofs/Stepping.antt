@@ -1,27 +1,27 @@
 -- One record answered and counted.
 use Rattle.lemmas.proofs.Basics.{ℕ, ◌+◌, ◌^◌, ◌≤◌, ◌<◌, arith, Bool, cond, ◌&&◌, and-false, List, [], ◌∷◌, ◌≡◌, ap, ◌∙◌, ltb, eqb, lt-ltb, le-ltb}
+use Rattle.std.specs.Prelude.{Result, Option, Some, None}
+use Rattle.refusal.specs.declared.Refusal.{Refusal}
+use Rattle.trace.specs.declared.Recorded.{Recorded}
+use Rattle.getkey.specs.declared.Granted.{Granted}
+use Rattle.gkid.specs.declared.FileTime.{FileTime}
 use Rattle.lemmas.proofs.Cases.{by_cases}
-use Rattle.getkey.specs.declared.Answer.{Answer}
 use Rattle.getkey.specs.Deciding.{answer_number}
-use Rattle.trace.specs.declared.RecordRead.{RecordRead}
 use Rattle.trace.specs.Reading.{record_of}
-use Rattle.tally.specs.declared.Clock.{Clock}
 use Rattle.tally.specs.declared.Tally.{Tally}
-use Rattle.tally.specs.declared.Merged.TheVariants as merged
 use Rattle.tally.specs.Totals.{tally_of}
 use Rattle.tally.specs.Merging.{merge, fits, merged_of}
 use Rattle.report.specs.declared.State.{State}
-use Rattle.report.specs.declared.Stepped.TheVariants.{Line, Full}
 use Rattle.report.specs.Records.{answered, answer_to, clock_of, counted_of, total_of}
 use Rattle.report.specs.Replaying.{after, counts, step_of}
 
 -- what was read, answered and counted, as the definitions have it
-module _ (table : List ℕ) (s : List ℕ) {read : RecordRead} {answer : Answer} (is_read : read ≡ record_of s) (is-answer : answer ≡ answered table read) where
+module _ (table : List ℕ) (s : List ℕ) {read : Result Recorded Refusal} {answer : Result Granted Refusal} (is_read : read ≡ record_of s) (is-answer : answer ≡ answered table read) where
   pub answer_is : answer ≡ answer_to table s
   unfolding answer_to
   answer_is = is-answer ∙ ap (answered table) is_read
 
-  pub one_is : {accepted : Bool} {clock : Clock} {one : Tally} → accepted ≡ eqb (answer_number answer) 0 → clock ≡ clock_of read
+  pub one_is : {accepted : Bool} {clock : Option FileTime} {one : Tally} → accepted ≡ eqb (answer_number answer) 0 → clock ≡ clock_of read
       → one ≡ tally_of (record { accepted = accepted; clock = clock } ∷ []) → one ≡ total_of table (s ∷ [])
   unfolding total_of counted_of
   one_is told timed counted =
@@ -29,29 +29,29 @@ module _ (table : List ℕ) (s : List ℕ) {read : RecordRead} {answer : Answer}
 
 -- the line, where the counts fit; none where one does not
 module _ (table : List ℕ) (st : State) (s : List ℕ) where
-  pub steps : {y : Tally} → merged_of st.tally (total_of table (s ∷ [])) ≡ merged.Total y → st.next + 1 < 2 ^ 64
-      → Line st.next (answer_to table s) (record { next = st.next + 1; tally = y }) ≡ step_of table st s
+  pub steps : {y : Tally} → merged_of st.tally (total_of table (s ∷ [])) ≡ Some y → st.next + 1 < 2 ^ 64
+      → SomeLine st.next (answer_to table s) (record { next = st.next + 1; tally = y }) ≡ step_of table st s
   unfolding step_of counts after merged_of
   steps {y} told small =
       by_cases
-      (λ t. cond t (merged.Total (merge st.tally (total_of table (s ∷ [])))) merged.Full ≡ merged.Total y
-      → Line st.next (answer_to table s) (record { next = st.next + 1; tally = y }) ≡ cond (ltb (st.next + 1) (2 ^ 64) && t) (Line st.next (answer_to table s) (after table st (s ∷ []))) Full)
+      (λ t. cond t (Some (merge st.tally (total_of table (s ∷ [])))) None ≡ Some y
+      → SomeLine st.next (answer_to table s) (record { next = st.next + 1; tally = y }) ≡ cond (ltb (st.next + 1) (2 ^ 64) && t) (SomeLine st.next (answer_to table s) (after table st (s ∷ []))) None)
       (fits (merge st.tally (total_of table (s ∷ []))))
       (λ q w. let is : y ≡ merge st.tally (total_of table (s ∷ [])) = cc in rw (lt-ltb (st.next + 1) (2 ^ 64) small, is))
       (λ q w. let z : ◌≡◌ {A = ℕ} 0 1 = cc in absurd (omega arith))
       told
 
-  pub steps_not : merged_of st.tally (total_of table (s ∷ [])) ≡ merged.Full → Full ≡ step_of table st s
+  pub steps_not : merged_of st.tally (total_of table (s ∷ [])) ≡ None → None ≡ step_of table st s
   unfolding step_of counts after merged_of
   steps_not told =
       by_cases
-      (λ t. cond t (merged.Total (merge st.tally (total_of table (s ∷ [])))) merged.Full ≡ merged.Full
-      → Full ≡ cond (ltb (st.next + 1) (2 ^ 64) && t) (Line st.next (answer_to table s) (after table st (s ∷ []))) Full)
+      (λ t. cond t (Some (merge st.tally (total_of table (s ∷ [])))) None ≡ None
+      → None ≡ cond (ltb (st.next + 1) (2 ^ 64) && t) (SomeLine st.next (answer_to table s) (after table st (s ∷ []))) None)
       (fits (merge st.tally (total_of table (s ∷ []))))
       (λ q w. let z : ◌≡◌ {A = ℕ} 0 1 = cc in absurd (omega arith))
       (λ q w. rw and-false)
       told
 
-  pub last_number : 2 ^ 64 ≤ st.next + 1 → Full ≡ step_of table st s
+  pub last_number : 2 ^ 64 ≤ st.next + 1 → None ≡ step_of table st s
   unfolding step_of counts
   last_number large = rw (le-ltb (st.next + 1) (2 ^ 64) large)

@@ -1,27 +1,24 @@
 -- Document 02, No. 7: the lines of a replay, newline-ended.
-use Rattle.std.specs.Prelude.{ℕ, ◌+◌, List, [], ◌∷◌, ◌++◌, length}
-use Rattle.refusal.specs.declared.Outcome.TheVariants.{Accepted}
+use Rattle.std.specs.Prelude.{ℕ, ◌+◌, List, [], ◌∷◌, ◌++◌, length, Result, Ok, Err}
+use Rattle.refusal.specs.declared.Refusal.{Refusal}
 use Rattle.wire.specs.Parts.{joined}
-use Rattle.records.specs.declared.Written.{Written}
 use Rattle.records.specs.Writing.{written_of}
-use Rattle.getkey.specs.declared.Answer.{Answer}
-use Rattle.getkey.specs.declared.Answer.TheVariants.{Granted, Create, Refused}
 use Rattle.line.specs.Text.{space, newline, decimal_of}
 use Rattle.words.specs.Words.{form_word, identifier_words, refused_words}
 use Rattle.tally.specs.declared.Tally.{Tally}
 use Rattle.report.specs.Records.{answer_to}
 
 -- the identifier, the form, then ROW and its number, or CREATE in their place; or REFUSED and the number
-unfoldable pub answer_words : Answer → List (List ℕ)
-answer_words (Granted at form row) = identifier_words at ++ (space ∷ form_word form ∷ (32 ∷ 82 ∷ 79 ∷ 87 ∷ 32 ∷ []) ∷ decimal_of row ∷ [])
-answer_words (Create at form) = identifier_words at ++ (space ∷ form_word form ∷ (32 ∷ 67 ∷ 82 ∷ 69 ∷ 65 ∷ 84 ∷ 69 ∷ []) ∷ [])
-answer_words (Refused r) = refused_words r
+unfoldable pub answer_words : Result OkRow Refusal → List (List ℕ)
+answer_words (OkRow at form row) = identifier_words at ++ (space ∷ form_word form ∷ (32 ∷ 82 ∷ 79 ∷ 87 ∷ 32 ∷ []) ∷ decimal_of row ∷ [])
+answer_words (OkCreate at form) = identifier_words at ++ (space ∷ form_word form ∷ (32 ∷ 67 ∷ 82 ∷ 69 ∷ 65 ∷ 84 ∷ 69 ∷ []) ∷ [])
+answer_words (Err r) = refused_words r
 
 -- "one line per record, numbered from 1"
-unfoldable pub line_words : ℕ → Answer → List (List ℕ)
+unfoldable pub line_words : ℕ → Result OkRow Refusal → List (List ℕ)
 line_words number answer = decimal_of number ∷ space ∷ (answer_words answer ++ (newline ∷ []))
 
-unfoldable pub line_of : ℕ → Answer → List ℕ
+unfoldable pub line_of : ℕ → Result OkRow Refusal → List ℕ
 line_of number answer = joined (line_words number answer)
 
 -- the lines of records, numbered from a number on
@@ -37,5 +34,5 @@ unfoldable pub total_line : Tally → List ℕ
 total_line t = joined (total_words t)
 
 -- what the writer of the total's line answers: its length, or 13
-unfoldable pub total_written : Tally → ℕ → Written
-total_written t room = written_of Accepted (length (total_line t)) room
+unfoldable pub total_written : Tally → ℕ → Result ℕ Refusal
+total_written t room = written_of (Ok tt) (length (total_line t)) room

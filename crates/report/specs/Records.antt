@@ -1,13 +1,11 @@
 -- Document 02, No. 7: the records of a trace, what each is answered, and what is counted of it.
-use Rattle.std.specs.Prelude.{ℕ, zero, suc, ◌+◌, ◌/◌, Bool, cond, ◌&&◌, ◌||◌, List, [], ◌∷◌, map, ltb, leb, eqb, length, take, drop}
-use Rattle.getkey.specs.declared.Answer.{Answer}
-use Rattle.getkey.specs.declared.Answer.TheVariants as answer
+use Rattle.std.specs.Prelude.{ℕ, zero, suc, ◌+◌, ◌/◌, Bool, cond, ◌&&◌, ◌||◌, List, [], ◌∷◌, map, ltb, leb, eqb, length, take, drop, Result, Ok, Err, Option, Some, None}
+use Rattle.refusal.specs.declared.Refusal.{Refusal}
+use Rattle.trace.specs.declared.Recorded.{Recorded}
+use Rattle.getkey.specs.declared.Granted.{Granted}
+use Rattle.gkid.specs.declared.FileTime.{FileTime}
 use Rattle.getkey.specs.Deciding.{decision_by_verdict, answer_number}
-use Rattle.trace.specs.declared.RecordRead.{RecordRead}
-use Rattle.trace.specs.declared.RecordRead.TheVariants.{Accepted, Refused}
 use Rattle.trace.specs.Reading.{record_length, record_of}
-use Rattle.tally.specs.declared.Clock.{Clock}
-use Rattle.tally.specs.declared.Clock.TheVariants.{None, At}
 use Rattle.tally.specs.declared.Counted.{Counted}
 use Rattle.tally.specs.declared.Tally.{Tally}
 use Rattle.tally.specs.Totals.{tally_of}
@@ -26,17 +24,17 @@ unfoldable pub has_record : Bool → ℕ → Bool
 has_record ends len = leb record_length len || (ends && ltb 0 len)
 
 -- 26, or what the decision by verdict answers, at the record's clock
-unfoldable pub answered : List ℕ → RecordRead → Answer
-answered table (Refused r) = answer.Refused r
-answered table (Accepted q) = decision_by_verdict q.verdict q.rights q.request q.clock table
+unfoldable pub answered : List ℕ → Result Recorded Refusal → Result Granted Refusal
+answered table (Err r) = Err r
+answered table (Ok q) = decision_by_verdict q.verdict q.rights q.request q.clock table
 
-unfoldable pub answer_to : List ℕ → List ℕ → Answer
+unfoldable pub answer_to : List ℕ → List ℕ → Result Granted Refusal
 answer_to table s = answered table (record_of s)
 
 -- "26 left out on both sides": a record that is 26 has no clock that counts, every other has
-unfoldable pub clock_of : RecordRead → Clock
-clock_of (Refused r) = None
-clock_of (Accepted q) = At q.clock
+unfoldable pub clock_of : Result Recorded Refusal → Option FileTime
+clock_of (Err r) = None
+clock_of (Ok q) = Some q.clock
 
 unfoldable pub counted_of : List ℕ → List ℕ → Counted
 counted_of table s = record { accepted = eqb (answer_number (answer_to table s)) 0; clock = clock_of (record_of s) }

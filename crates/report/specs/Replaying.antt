@@ -1,11 +1,10 @@
 -- Document 02, No. 7: the replay of a trace, whole, and as a state that goes on from record to record and from chunk to chunk.
-use Rattle.std.specs.Prelude.{ℕ, ◌+◌, ◌-◌, ◌*◌, ◌^◌, min, Bool, true, cond, ◌&&◌, List, [], ◌∷◌, ◌++◌, ltb, length}
+use Rattle.std.specs.Prelude.{ℕ, ◌+◌, ◌-◌, ◌*◌, ◌^◌, min, Bool, true, cond, ◌&&◌, List, [], ◌∷◌, ◌++◌, ltb, length, Option, None}
+use Rattle.report.specs.declared.Stepped.{Stepped}
 use Rattle.trace.specs.Reading.{record_length}
 use Rattle.tally.specs.Totals.{tally_of}
 use Rattle.tally.specs.Merging.{merge, fits}
 use Rattle.report.specs.declared.State.{State}
-use Rattle.report.specs.declared.Stepped.{Stepped}
-use Rattle.report.specs.declared.Stepped.TheVariants as step
 use Rattle.report.specs.declared.Stopped.{Stopped}
 use Rattle.report.specs.declared.Stopped.TheVariants.{Records, Room, Full}
 use Rattle.report.specs.declared.Progress.{Progress}
@@ -33,8 +32,8 @@ unfoldable pub counts : List ℕ → State → List ℕ → Bool
 counts table st s = ltb (st.next + 1) (2 ^ 64) && fits (after table st (s ∷ [])).tally
 
 -- one record in, its number, its answer and the next state out; none where a count does not fit
-unfoldable pub step_of : List ℕ → State → List ℕ → Stepped
-step_of table st s = cond (counts table st s) (step.Line st.next (answer_to table s) (after table st (s ∷ []))) step.Full
+unfoldable pub step_of : List ℕ → State → List ℕ → Option Stepped
+step_of table st s = cond (counts table st s) (SomeLine st.next (answer_to table s) (after table st (s ∷ []))) None
 
 -- the room that a line is sure to fit in
 abbrev pub line_room : ℕ

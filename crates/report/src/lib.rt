@@ -88,10 +88,10 @@ pub fn step(state: State, table: &[u8], s: &[u8]) -> Stepped
     let tally = state.tally;
     let number = state.next;
     if number == 0xffff_ffff_ffff_ffff {
-        return Stepped::Full;
+        return None;
     }
     match tally.merged(Tally::of(counted)) {
-        Merged::Total(tally) => Stepped::Line {
+        Some(tally) => SomeLine {
             number,
             answer,
             state: State {
@@ -99,7 +99,7 @@ pub fn step(state: State, table: &[u8], s: &[u8]) -> Stepped
                 tally,
             },
         },
-        Merged::Full => Stepped::Full,
+        None => None,
     }
 }
 
@@ -108,13 +108,13 @@ fn answer_of(read: RecordRead, table: &[u8]) -> Answer
     ensures { result ≡ answered table.now read }
 {
     match read {
-        RecordRead::Accepted(recorded) => {
+        Ok(recorded) => {
             let rights = recorded.rights;
             let request = recorded.request;
             let clock = recorded.clock;
             decide_by_verdict(recorded.verdict, rights, request, clock, table)
         }
-        RecordRead::Refused(refusal) => Answer::Refused(refusal),
+        Err(refusal) => Err(refusal),
     }
 }
 
@@ -123,11 +123,11 @@ fn clock_of(read: RecordRead) -> Clock
     ensures { result ≡ clock_of read }
 {
     match read {
-        RecordRead::Accepted(recorded) => {
+        Ok(recorded) => {
             let clock = recorded.clock;
-            Clock::At(clock)
+            Some(clock)
         }
-        RecordRead::Refused(_) => Clock::None,
+        Err(_) => None,
     }
 }
 
@@ -136,9 +136,9 @@ fn is_accepted(answer: Answer) -> bool
     ensures { result ≡ eqb (answer_number answer) 0 }
 {
     match answer {
-        Answer::Granted { .. } => true,
-        Answer::Create { .. } => true,
-        Answer::Refused(_) => false,
+        OkRow { .. } => true,
+        OkCreate { .. } => true,
+        Err(_) => false,
     }
 }
 
@@ -162,7 +162,7 @@ pub fn replay(out: &mut [u8], state: State, table: &[u8], chunk: &[u8], ends: bo
         }
         let size = record_size(left.len());
         match step(present, table, &left[..size]) {
-            Stepped::Line {
+            SomeLine {
                 number,
                 answer,
                 state,
@@ -171,7 +171,7 @@ pub fn replay(out: &mut [u8], state: State, table: &[u8], chunk: &[u8], ends: bo
                 present = state;
                 left = &left[size..];
             }
-            Stepped::Full => {
+            None => {
                 return Progress {
                     stopped: Stopped::Full,
                     used: chunk.len() - left.len(),
@@ -217,16 +217,16 @@ fn put_answer(out: &mut [u8], len: usize, answer: Answer) -> usize
     ensures { buffer out.new result ≡ put_all (buffer out.old len) (answer_words answer) }
 {
     match answer {
-        Answer::Granted { at, form, row } => {
+        OkRow { at, form, row } => {
             let granted = put_granted(out, len, at, form);
             let word = put_text(out, granted, b" ROW ");
             put_number(out, word, row as u64)
         }
-        Answer::Create { at, form } => {
+        OkCreate { at, form } => {
             let granted = put_granted(out, len, at, form);
             put_text(out, granted, b" CREATE")
         }
-        Answer::Refused(refusal) => put_refused(out, len, refusal),
+        Err(refusal) => put_refused(out, len, refusal),
     }
 }
 
@@ -269,8 +269,8 @@ pub fn put_total(out: &mut [u8], tally: Tally) -> Written
     );
     let len = text.len();
     if out.len() < len {
-        return Written::Refused(Refusal::NoRoom);
+        return Err(Refusal::NoRoom);
     }
     wire::copy_into(out, text);
-    Written::Length(len)
+    Ok(len)
 }

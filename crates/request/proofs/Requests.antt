@@ -1,42 +1,39 @@
 -- Laws of requests: what their indices show once narrowed; and where neither 14 nor 15 refuses them, they are all -1 or all 0 and above.
 use Rattle.lemmas.proofs.Basics.{ℕ, arith, Bool, true, false, cond, true≢false, ◌≡◌, refl, ltb, eqb, ltb-true, ltb-false, eq-eqb, ne_eqb}
+use Rattle.std.specs.Prelude.{Result, Ok, Err, Option, Some, None}
+use Rattle.rootid.specs.declared.RootId.{RootId}
+use Rattle.refusal.specs.declared.Refusal.{Refusal}
 use lib.IntN.{ℤ, pos, negsuc}
 use Rattle.lemmas.proofs.Cases.{by_cases, or-false}
-use Rattle.refusal.specs.declared.Outcome.{Outcome}
-use Rattle.refusal.specs.declared.Outcome.TheVariants as outcome
+use Rattle.refusal.specs.Outcome.{Outcome}
 use Rattle.refusal.specs.Chain.{first_of, unless_refused}
 use Rattle.refusal.specs.Number.{outcome_number}
 use Rattle.refusal.proofs.Numbers.{number_not-zero}
 use Rattle.gkid.specs.declared.Gkid.{Gkid}
 use Rattle.gkid.specs.Identifier.{gkid, InGroup, later_then, later}
-use Rattle.request.specs.declared.Root.{Root}
 use Rattle.request.specs.declared.Request.{Request}
-use Rattle.request.specs.declared.Asked.{Asked}
-use Rattle.request.specs.declared.Asked.TheVariants.{Latest, Named}
-use Rattle.request.specs.declared.Narrowing.{Narrowing}
-use Rattle.request.specs.declared.Narrowing.TheVariants as narrowing
 use Rattle.request.specs.Indices.{below, outside, out_of_range, unset, mixed, index_checks, later_then_z, later_than_now, names, natural, named_of}
 use Rattle.request.specs.Narrowed.{narrowed_of, narrowed_number, narrowed_names, narrowed_shown, named_or_zeros}
 
 -- what stands behind 14 and 15
-abbrev pub asked_of : Request → Asked
-asked_of q = cond (names q) (Named (named_of q)) Latest
+abbrev pub asked_of : Request → Option Gkid
+asked_of q = cond (names q) (Some (named_of q)) None
 
-pub narrowed_asks : (q : Request) → out_of_range q ≡ false → mixed q ≡ false → narrowed_of q ≡ narrowing.Asks (asked_of q)
+pub narrowed_asks : (q : Request) → out_of_range q ≡ false → mixed q ≡ false → narrowed_of q ≡ Ok (asked_of q)
 unfolding narrowed_of index_checks first_of unless_refused
 narrowed_asks q h e = rw (h, e)
 
 -- The number is that of the checks, and where they are accepted, what is named is shown.
-pub narrowed_shows : (q : Request) {r : Narrowing} → r ≡ narrowed_of q
+pub narrowed_shows : (q : Request) {r : Result (Option Gkid) Refusal} → r ≡ narrowed_of q
     → record { answer : r ≡ narrowed_of q; number : narrowed_number r ≡ outcome_number (first_of (index_checks q)); shown : narrowed_number r ≡ 0 → (narrowed_names r ≡ names q) × (narrowed_shown r ≡ named_or_zeros q) }
 unfolding narrowed_of narrowed_number narrowed_names narrowed_shown named_or_zeros unless_refused outcome_number
 narrowed_shows q e = rw e (let told = of (first_of (index_checks q)) (names q) (named_of q) in record { answer = refl; number = told.0; shown = told.1 })
   where
-    of : (o : Outcome) (n : Bool) (i : Gkid) → let r = unless_refused narrowing.Refused o (narrowing.Asks (cond n (Named i) Latest)) in
+    of : (o : Outcome) (n : Bool) (i : Gkid) → let r = unless_refused Err o (Ok (cond n (Some i) None)) in
         (narrowed_number r ≡ outcome_number o) × (narrowed_number r ≡ 0 → (narrowed_names r ≡ n) × (narrowed_shown r ≡ cond n i (gkid 0 0 0)))
-    of outcome.Accepted true i = (refl, λ _. (refl, refl))
-    of outcome.Accepted false i = (refl, λ _. (refl, refl))
-    of (outcome.Refused r) n i = (refl, λ z. absurd (number_not-zero r z))
+    of (Ok tt) true i = (refl, λ _. (refl, refl))
+    of (Ok tt) false i = (refl, λ _. (refl, refl))
+    of (Err r) n i = (refl, λ z. absurd (number_not-zero r z))
 
 -- Either no index names anything, and the request is never later than now; or all do, and it is later where the named one is.
 pub data Asks (q : Request) : Type 0 where
@@ -57,7 +54,7 @@ minus_one : (n : ℕ) → below (negsuc n) ≡ false → eqb n 0 ≡ true
 unfolding below
 minus_one n e = eq-eqb n 0 (omega (arith, ltb-false))
 
-asks_of : (root : Root) (a b c : ℤ) → let q : Request = record { root = root; l0 = a; l1 = b; l2 = c } in
+asks_of : (root : Option RootId) (a b c : ℤ) → let q : Request = record { root = root; l0 = a; l1 = b; l2 = c } in
     below a ≡ false → outside b ≡ false → outside c ≡ false → mixed q ≡ false → Asks q
 unfolding below outside mixed unset names natural named_of later_than_now later_then_z later
 asks_of root (pos a) (pos b) (pos c) h k l e =

@@ -84,19 +84,19 @@ impl Request {
         ensures shown { narrowed_number result ≡ 0 → (narrowed_names result ≡ names self) × (narrowed_shown result ≡ named_or_zeros self) }
     {
         if self.out_of_range() {
-            return Narrowing::Refused(Refusal::IndexOutOfRange);
+            return Err(Refusal::IndexOutOfRange);
         }
         if self.is_mixed() {
-            return Narrowing::Refused(Refusal::MixedIndices);
+            return Err(Refusal::MixedIndices);
         }
         if self.names_one() {
-            return Narrowing::Asks(Asked::Named(Gkid {
+            return Ok(Some(Gkid {
                 l0: L0(narrow(self.l0)),
                 l1: L1(narrow(self.l1)),
                 l2: L2(narrow(self.l2)),
             }));
         }
-        Narrowing::Asks(Asked::Latest)
+        Ok(None)
     }
 }
 

@@ -1,14 +1,14 @@
 -- Laws of the choice of a row: the chosen row is suitable, no suitable row is higher, none before it as high; none is chosen exactly
 -- where none is suitable; and one pass over the rows finds it.
 use Rattle.lemmas.proofs.Basics.{ℕ, zero, suc, ◌≤◌, ◌<◌, arith, Bool, true, false, cond, not, ◌&&◌, ◌||◌, true≢false, false≢true, List, ◌≡◌, refl, sym, subst, ◌∙◌, length, ltb, leb, ltb-true, ltb-false, le-leb, leb-true, below_more}
+use Rattle.std.specs.Prelude.{Result, Ok, Err, Option, None, Some}
+use Rattle.refusal.specs.declared.Refusal.{Refusal}
 use Rattle.refusal.specs.declared.Refusal.TheVariants.{TableLength}
 use Rattle.refusal.specs.Number.{number_of}
 use Rattle.lemmas.specs.Counting.{every}
 use Rattle.lemmas.proofs.Cases.{by_cases, cond_cases, both_true}
 use Rattle.lemmas.proofs.Counting.{every_all, all_every}
 use Rattle.roottable.specs.declared.Wanted.{Wanted}
-use Rattle.roottable.specs.declared.Found.{Found}
-use Rattle.roottable.specs.declared.Found.TheVariants as found
 use Rattle.roottable.specs.declared.Best.{Best}
 use Rattle.roottable.specs.declared.Best.TheVariants as best
 use Rattle.roottable.specs.Rows.{table_wrong, row_at, row_count, suitable, rank}
@@ -25,21 +25,21 @@ pub record Chosen (n : ℕ) (suits : ℕ → Bool) (height : ℕ → ℕ) (k : �
 abbrev pub NoneSuits : ℕ → (ℕ → Bool) → Type 0
 NoneSuits n suits = (j : ℕ) → j < n → suits j ≡ false
 
-abbrev pub Says : ℕ → (ℕ → Bool) → (ℕ → ℕ) → Found → Type 0
-Says n suits height (found.Row k) = Chosen n suits height k
-Says n suits height found.None = NoneSuits n suits
-Says n suits height (found.Refused r) = ⊥
+abbrev pub Says : ℕ → (ℕ → Bool) → (ℕ → ℕ) → Result (Option ℕ) Refusal → Type 0
+Says n suits height (Ok (Some k)) = Chosen n suits height k
+Says n suits height (Ok None) = NoneSuits n suits
+Says n suits height (Err r) = ⊥
 
-first_none : (n : ℕ) (test : ℕ → Bool) → ((j : ℕ) → j < n → test j ≡ false) → first_where n test ≡ found.None
+first_none : (n : ℕ) (test : ℕ → Bool) → ((j : ℕ) → j < n → test j ≡ false) → first_where n test ≡ Ok None
 unfolding first_where or_else
 first_none zero test none = refl
 first_none (suc n) test none = rw (first_none n test (λ j h. none j (omega arith)), none n (omega arith))
 
-first_is : (n k : ℕ) (test : ℕ → Bool) → k < n → test k ≡ true → ((j : ℕ) → j < k → test j ≡ false) → first_where n test ≡ found.Row k
+first_is : (n k : ℕ) (test : ℕ → Bool) → k < n → test k ≡ true → ((j : ℕ) → j < k → test j ≡ false) → first_where n test ≡ Ok (Some k)
 unfolding first_where or_else
 first_is zero k test h e none = absurd (omega arith)
 first_is (suc n) k test h e none =
-    by_cases (λ _. or_else (first_where n test) (cond (test n) (found.Row n) found.None) ≡ found.Row k) (ltb k n)
+    by_cases (λ _. or_else (first_where n test) (cond (test n) (Ok (Some n)) (Ok None)) ≡ Ok (Some k)) (ltb k n)
     (λ l. rw (first_is n k test (ltb-true k n l) e none))
     (λ l. let last : n ≡ k = omega (arith, ltb-false) in rw (last, first_none k test none, e))
 
@@ -61,21 +61,21 @@ beaten n suits height j k h e less =
     (λ _. refl)
 
 -- What is said of one place alone is that the definition finds it.
-says_is : (n : ℕ) (suits : ℕ → Bool) (height : ℕ → ℕ) (f : Found) → Says n suits height f → first_highest n suits height ≡ f
+says_is : (n : ℕ) (suits : ℕ → Bool) (height : ℕ → ℕ) (f : Result (Option ℕ) Refusal) → Says n suits height f → first_highest n suits height ≡ f
 unfolding first_highest
-says_is n suits height (found.Row k) c =
+says_is n suits height (Ok (Some k)) c =
     first_is n k (Test n suits height) c.within (chosen_test n suits height k c) (λ j h. beaten n suits height j k c.within c.suited (c.first j h))
-says_is n suits height found.None none = first_none n (Test n suits height) (λ j h. rw (none j h))
-says_is n suits height (found.Refused r) never = absurd never
+says_is n suits height (Ok None) none = first_none n (Test n suits height) (λ j h. rw (none j h))
+says_is n suits height (Err r) never = absurd never
 
 -- what the best of the first n places says
 abbrev pub BestSays : ℕ → (ℕ → Bool) → (ℕ → ℕ) → Best → Type 0
 BestSays n suits height (best.Row k high) = Chosen n suits height k × (high ≡ height k)
 BestSays n suits height best.None = NoneSuits n suits
 
-abbrev pub place : Best → Found
-place (best.Row k high) = found.Row k
-place best.None = found.None
+abbrev pub place : Best → Result (Option ℕ) Refusal
+place (best.Row k high) = Ok (Some k)
+place best.None = Ok None
 
 placed : (n : ℕ) (suits : ℕ → Bool) (height : ℕ → ℕ) (b : Best) → BestSays n suits height b → Says n suits height (place b)
 placed n suits height (best.Row k high) s = s.0
@@ -163,15 +163,15 @@ unfolding chosen_row
 chosen_row_lem wanted table e = rw e (first_highest_lem (row_count table) (suits wanted table) (ranks wanted table))
 
 -- The number is 20's or 0, and a row that is found lies in the table.
-shows : (n : ℕ) (suits : ℕ → Bool) (height : ℕ → ℕ) (wrong : Bool) (f : Found) → Says n suits height f → let g = cond wrong (found.Refused TableLength) f in
+shows : (n : ℕ) (suits : ℕ → Bool) (height : ℕ → ℕ) (wrong : Bool) (f : Result (Option ℕ) Refusal) → Says n suits height f → let g = cond wrong (Err TableLength) f in
     (found_number g ≡ cond wrong (number_of TableLength) 0) × (found_any g ≡ true → found_row g < n)
 unfolding found_number found_any found_row
 shows n suits height true f s = (refl, λ e. absurd (false≢true e))
-shows n suits height false found.None s = (refl, λ e. absurd (false≢true e))
-shows n suits height false (found.Row k) s = (refl, λ _. s.within)
-shows n suits height false (found.Refused r) s = absurd s
+shows n suits height false (Ok None) s = (refl, λ e. absurd (false≢true e))
+shows n suits height false (Ok (Some k)) s = (refl, λ _. s.within)
+shows n suits height false (Err r) s = absurd s
 
-pub row_shows : (wanted : Wanted) (table : List ℕ) {f : Found} → f ≡ chosen_row wanted table
+pub row_shows : (wanted : Wanted) (table : List ℕ) {f : Result (Option ℕ) Refusal} → f ≡ chosen_row wanted table
     → record { answer : f ≡ chosen_row wanted table; number : found_number f ≡ table_number table; row : found_any f ≡ true → found_row f < row_count table }
 unfolding chosen_row table_number
 row_shows wanted table e =

@@ -1,49 +1,48 @@
 -- Document 01, "The GetKey decision", root row: 20; else of the suitable rows the first of the highest rank.
-use Rattle.std.specs.Prelude.{ℕ, zero, suc, Bool, true, false, cond, not, ◌&&◌, ◌||◌, List, leb, length}
+use Rattle.std.specs.Prelude.{ℕ, zero, suc, Bool, true, false, cond, not, ◌&&◌, ◌||◌, List, leb, length, Result, Ok, Err, Option, None, Some}
+use Rattle.refusal.specs.declared.Refusal.{Refusal}
 use Rattle.lemmas.specs.Counting.{every}
 use Rattle.refusal.specs.declared.Refusal.TheVariants.{TableLength}
 use Rattle.refusal.specs.Number.{number_of}
 use Rattle.roottable.specs.declared.Wanted.{Wanted}
-use Rattle.roottable.specs.declared.Found.{Found}
-use Rattle.roottable.specs.declared.Found.TheVariants as found
 use Rattle.roottable.specs.Rows.{table_wrong, row_at, row_count, suitable, rank}
 
-unfoldable pub or_else : Found → Found → Found
-or_else found.None other = other
-or_else (found.Row k) other = found.Row k
-or_else (found.Refused r) other = found.Refused r
+unfoldable pub or_else : Result (Option ℕ) Refusal → Result (Option ℕ) Refusal → Result (Option ℕ) Refusal
+or_else (Ok None) other = other
+or_else (Ok (Some k)) other = Ok (Some k)
+or_else (Err r) other = Err r
 
 -- the first number below n of which the test holds
-unfoldable pub first_where : ℕ → (ℕ → Bool) → Found
-first_where zero test = found.None
-first_where (suc n) test = or_else (first_where n test) (cond (test n) (found.Row n) found.None)
+unfoldable pub first_where : ℕ → (ℕ → Bool) → Result (Option ℕ) Refusal
+first_where zero test = Ok None
+first_where (suc n) test = or_else (first_where n test) (cond (test n) (Ok (Some n)) (Ok None))
 
 -- of n places, the first suitable one of which no suitable one is higher
-unfoldable pub first_highest : ℕ → (ℕ → Bool) → (ℕ → ℕ) → Found
+unfoldable pub first_highest : ℕ → (ℕ → Bool) → (ℕ → ℕ) → Result (Option ℕ) Refusal
 first_highest n suits height = first_where n (λ k. suits k && every n (λ j. not (suits j) || leb (height j) (height k)))
 
 -- 20, or the row of the table that is wanted
-unfoldable pub chosen_row : Wanted → List ℕ → Found
+unfoldable pub chosen_row : Wanted → List ℕ → Result (Option ℕ) Refusal
 chosen_row wanted table =
-    cond (table_wrong (length table)) (found.Refused TableLength)
+    cond (table_wrong (length table)) (Err TableLength)
     (first_highest (row_count table) (λ k. suitable wanted (row_at table k)) (λ k. rank wanted (row_at table k)))
 
 -- the paper's number, whether a row is found, and that row: none is number 0, not found, with zero beside it, since what comes of it
 -- is the request's to say; or the refusal's number and zero
-unfoldable pub found_number : Found → ℕ
-found_number found.None = 0
-found_number (found.Row k) = 0
-found_number (found.Refused r) = number_of r
+unfoldable pub found_number : Result (Option ℕ) Refusal → ℕ
+found_number (Ok None) = 0
+found_number (Ok (Some k)) = 0
+found_number (Err r) = number_of r
 
-unfoldable pub found_any : Found → Bool
-found_any found.None = false
-found_any (found.Row k) = true
-found_any (found.Refused r) = false
+unfoldable pub found_any : Result (Option ℕ) Refusal → Bool
+found_any (Ok None) = false
+found_any (Ok (Some k)) = true
+found_any (Err r) = false
 
-unfoldable pub found_row : Found → ℕ
-found_row found.None = 0
-found_row (found.Row k) = k
-found_row (found.Refused r) = 0
+unfoldable pub found_row : Result (Option ℕ) Refusal → ℕ
+found_row (Ok None) = 0
+found_row (Ok (Some k)) = k
+found_row (Err r) = 0
 
 -- 20, or 0
 unfoldable pub table_number : List ℕ → ℕ

@@ -60,7 +60,7 @@ pub fn choose(wanted: Wanted, table: &[u8]) -> Found
     ensures row { found_any result ≡ true → found_row result < row_count table.now }
 {
     if is_table_wrong(table.len()) {
-        return Found::Refused(Refusal::TableLength);
+        return Err(Refusal::TableLength);
     }
     let rows = table.len() / ROW_SIZE;
     let mut best = Best::None;
@@ -70,8 +70,8 @@ pub fn choose(wanted: Wanted, table: &[u8]) -> Found
         k += 1;
     }
     match best {
-        Best::None => Found::None,
-        Best::Row { row, rank: _ } => Found::Row(row),
+        Best::None => Ok(None),
+        Best::Row { row, rank: _ } => Ok(Some(row)),
     }
 }
 

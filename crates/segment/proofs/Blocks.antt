@@ -1,6 +1,8 @@
 -- Laws of the blocks: a size read from its own four bytes, one block more that is counted, the count by the sizes as they are asked
 -- for, and what follows the sizes.
 use Rattle.lemmas.proofs.Basics.{ℕ, ◌+◌, ◌-◌, ◌*◌, ◌^◌, ◌≤◌, ◌<◌, arith, add-zero, add-one, Bool, false, cond, List, ◌++◌, ◌≡◌, refl, sym, ap, ap₂, ◌∙◌, ltb, length, take, drop, length-append, lt-ltb, le-ltb, ltb-true}
+use Rattle.std.specs.Prelude.{Result, Ok, Err, Option, None, Some}
+use Rattle.refusal.specs.declared.Refusal.{Refusal}
 use Rattle.lemmas.proofs.Cases.{by_cases}
 use Rattle.lemmas.specs.Counting.{bit, count}
 use Rattle.lemmas.proofs.Counting.{count_is, count_parts, count_none}
@@ -9,9 +11,6 @@ use Rattle.wire.specs.Numbers.{le_of}
 use Rattle.wire.specs.Parts.{le_at}
 use Rattle.wire.proofs.Parts.{part_left, number_within}
 use Rattle.segment.specs.declared.Segment.{Segment}
-use Rattle.segment.specs.declared.SegmentRead.TheVariants.{Accepted, Refused}
-use Rattle.segment.specs.declared.SizeRead.{SizeRead}
-use Rattle.segment.specs.declared.SizeRead.TheVariants as size
 use Rattle.segment.specs.Layout.{unit_shift, block_count, size_at, head_of, length_for, larger_than}
 use Rattle.segment.specs.Reading.{segment_checks, shown, segment_of, size_of}
 use Rattle.segment.proofs.Reading.{accepted-shown}
@@ -29,13 +28,13 @@ unfolding count bit
 not_larger unit k size is less = rw (add-one k, ← is, le-ltb unit _ less) (omega arith)
 
 -- whether the size of a block, as it is asked for, is larger than the data unit
-unfoldable pub is_larger : ℕ → SizeRead → Bool
-is_larger unit (size.Size n) = ltb unit n
-is_larger unit size.None = false
-is_larger unit (size.Refused r) = false
+unfoldable pub is_larger : ℕ → Result (Option ℕ) Refusal → Bool
+is_larger unit (Ok (Some n)) = ltb unit n
+is_larger unit (Ok None) = false
+is_larger unit (Err r) = false
 
 -- The larger blocks that an accepted header shows are counted by the sizes as they are asked for, at every index from 0 on.
-pub larger_asked : (s : List ℕ) (t : Segment) → segment_of s ≡ Accepted t → (more : ℕ)
+pub larger_asked : (s : List ℕ) (t : Segment) → segment_of s ≡ Ok t → (more : ℕ)
     → t.larger ≡ count (t.blocks + more) (λ k. is_larger (2 ^ t.head.unit_shift) (size_of s k))
 unfolding size_of unless_refused is_larger shown head_of
 larger_asked s t e more =
@@ -67,13 +66,13 @@ module _ (a b c : List ℕ) (same : length b ≡ length c) (end : length_for (bl
 
   pub ignored : segment_of (a ++ b) ≡ segment_of (a ++ c)
   unfolding segment_of
-  ignored = ap₂ (λ checks t. unless_refused Refused (first_of checks) (Accepted t)) same-checks same-shown
+  ignored = ap₂ (λ checks t. unless_refused Err (first_of checks) (Ok t)) same-checks same-shown
 
   pub ignored_size : (k : ℕ) → size_of (a ++ b) k ≡ size_of (a ++ c) k
   unfolding size_of
   ignored_size k =
       rw (same-checks, number 2 26 (omega arith))
-      (ap (unless_refused size.Refused (first_of (segment_checks (a ++ c))))
-      (by_cases (λ t. cond t (size.Size (size_at (a ++ b) k)) size.None ≡ cond t (size.Size (size_at (a ++ c) k)) size.None) (ltb k (block_count (a ++ c)))
-      (λ q. ap size.Size (same_size k (ltb-true k _ q)))
+      (ap (unless_refused Err (first_of (segment_checks (a ++ c))))
+      (by_cases (λ t. cond t (Ok (Some (size_at (a ++ b) k))) (Ok None) ≡ cond t (Ok (Some (size_at (a ++ c) k))) (Ok None)) (ltb k (block_count (a ++ c)))
+      (λ q. ap Ok (Some (same_size k (ltb-true k _ q))))
       (λ _. refl)))

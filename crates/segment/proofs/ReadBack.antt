@@ -1,8 +1,8 @@
 -- What the writer accepted reads back as given, each size; and writing what was read gives the same bytes exactly if nothing followed
 -- the sizes.
 use Rattle.lemmas.proofs.Basics.{ℕ, zero, suc, ◌+◌, ◌*◌, ◌^◌, ◌≤◌, ◌<◌, arith, List, [], ◌∷◌, ◌++◌, ◌≡◌, refl, sym, ap, ◌∙◌, ltb, length, get_or, take, drop, le-ltb, lt-ltb, ltb-false}
+use Rattle.std.specs.Prelude.{Ok, None, Some}
 use Rattle.lemmas.proofs.Counting.{count_is}
-use Rattle.refusal.specs.declared.Outcome.TheVariants as outcome
 use Rattle.refusal.specs.Chain.{first_of, unless_refused}
 use Rattle.refusal.proofs.Chains.{pass_accepted}
 use Rattle.wire.specs.Numbers.{le_bytes}
@@ -10,12 +10,9 @@ use Rattle.wire.specs.Parts.{part_of, le_at, joined, le32_bytes}
 use Rattle.wire.proofs.Parts.{part_next, part_whole, piece_part, cut-joined}
 use Rattle.wire.proofs.Numbers.{Bytes, places, le_part_back}
 use Rattle.wire.proofs.Writing.{length-le32_bytes, le32s_back}
-use Rattle.records.specs.declared.Written.TheVariants as written
 use Rattle.records.specs.Writing.{output_of}
 use Rattle.records.proofs.Laws.{written_record, record_written}
 use Rattle.segment.specs.declared.Head.{Head}
-use Rattle.segment.specs.declared.SegmentRead.TheVariants.{Accepted}
-use Rattle.segment.specs.declared.SizeRead.TheVariants as size
 use Rattle.segment.specs.Layout.{block_count, size_at, head_of, length_for, larger_than}
 use Rattle.segment.specs.Reading.{segment_checks, shown, segment_of, segment_number, segment_values, segment_part, size_of}
 use Rattle.segment.specs.Writing.{segment_length, pieces, segment_bytes, write_checks, segment_written}
@@ -26,24 +23,24 @@ use Rattle.segment.proofs.Writing.{Wide, fits, length-bytes, as_read, is_head, i
 -- a header that reads as these numbers and sizes
 pub record ReadsBack (s : List ℕ) (h : Head) (sizes : List ℕ) : Type 0 where
   pub values : segment_of s
-      ≡ Accepted (record {
+      ≡ Ok (record {
         head = h;
         length = segment_length sizes;
         blocks = length sizes;
         sizes = record { at = 28; len = 4 * length sizes };
         larger = larger_than (2 ^ h.unit_shift) (length sizes) (λ k. get_or sizes k 0);
       })
-  pub each : (k : ℕ) → k < length sizes → size_of s k ≡ size.Size (get_or sizes k 0)
-  pub beyond : (k : ℕ) → length sizes ≤ k → size_of s k ≡ size.None
+  pub each : (k : ℕ) → k < length sizes → size_of s k ≡ Ok (Some (get_or sizes k 0))
+  pub beyond : (k : ℕ) → length sizes ≤ k → size_of s k ≡ Ok None
   pub sizes-bytes : segment_part s ≡ le32_bytes sizes
 
 -- What the writer accepts reads back as given.
-pub reads_back : (h : Head) (sizes : List ℕ) → Wide h sizes → first_of (write_checks h sizes) ≡ outcome.Accepted → ReadsBack (segment_bytes h sizes) h sizes
+pub reads_back : (h : Head) (sizes : List ℕ) → Wide h sizes → first_of (write_checks h sizes) ≡ Ok tt → ReadsBack (segment_bytes h sizes) h sizes
 unfolding segment_of size_of unless_refused shown segment_values segment_bytes joined le_bytes
 reads_back h sizes wide accepted =
     let s = segment_bytes h sizes in
     let f = fits h sizes accepted in
-    let checks : first_of (segment_checks s) ≡ outcome.Accepted = sym (as_read h sizes (omega (arith, f.unit)) (omega (arith, f.unit, f.chunk)) (omega (arith, f.cluster))) ∙ accepted in
+    let checks : first_of (segment_checks s) ≡ (Ok tt) = sym (as_read h sizes (omega (arith, f.unit)) (omega (arith, f.unit, f.chunk)) (omega (arith, f.cluster))) ∙ accepted in
     let count = is_count h sizes f.limit in
     let read : (k : ℕ) → k < length sizes → size_at s k ≡ get_or sizes k 0 = λ k inside. is_size h sizes k inside (wide.each k inside) in
     let larger : larger_than (2 ^ h.unit_shift) (length sizes) (size_at s) ≡ larger_than (2 ^ h.unit_shift) (length sizes) (λ k. get_or sizes k 0) =
@@ -57,8 +54,8 @@ reads_back h sizes wide accepted =
     }
 
 -- So do the first n bytes of the output, where the writer answers n.
-pub written_reads_back : (h : Head) (sizes out : List ℕ) (n : ℕ) → Wide h sizes → segment_written h sizes (length out) ≡ written.Length n
-    → ReadsBack (take n (output_of (written.Length n) (segment_bytes h sizes) out)) h sizes
+pub written_reads_back : (h : Head) (sizes out : List ℕ) (n : ℕ) → Wide h sizes → segment_written h sizes (length out) ≡ Ok n
+    → ReadsBack (take n (output_of (Ok n) (segment_bytes h sizes) out)) h sizes
 written_reads_back h sizes out n wide e =
     let told = written_record (segment_bytes h sizes) out n (length-bytes h sizes) e in
     rw told.1 (reads_back h sizes wide told.0)
@@ -104,7 +101,7 @@ same_rewritten s e = ap length_for (sym (length_places (block_count s) (size_at 
 
 -- What was read from an accepted header, the writer accepts; so given room it is written.
 pub rewrites : (s out : List ℕ) → segment_number (segment_of s) ≡ 0 → length_for (block_count s) ≤ length out
-    → (segment_written (head_of s) (sizes_in s) (length out) ≡ written.Length (length_for (block_count s)))
+    → (segment_written (head_of s) (sizes_in s) (length out) ≡ Ok (length_for (block_count s)))
     × (output_of (segment_written (head_of s) (sizes_in s) (length out)) (segment_bytes (head_of s) (sizes_in s)) out ≡ segment_bytes (head_of s) (sizes_in s) ++ drop (length_for (block_count s)) out)
 unfolding write_checks head_of
 rewrites s out z room =
@@ -115,4 +112,4 @@ rewrites s out z room =
     let accepted = pass_accepted (write_checks (head_of s) (sizes_in s)) (le-ltb 65535 _ limit, ((passed s e).shifts, tt)) in
     let bytes = segment_bytes (head_of s) (sizes_in s) in
     let told = record_written bytes out accepted (length-bytes (head_of s) (sizes_in s)) (omega (arith, count, room)) in
-    (told.0 ∙ ap (λ n. written.Length (length_for n)) count, told.1 ∙ ap (λ n. bytes ++ drop (length_for n) out) count)
+    (told.0 ∙ ap (λ n. Ok (length_for n)) count, told.1 ∙ ap (λ n. bytes ++ drop (length_for n) out) count)

@@ -1,6 +1,6 @@
 -- Laws of the writer: its bytes as they are put, and what they read as.
 use Rattle.lemmas.proofs.Basics.{ℕ, ◌+◌, ◌*◌, ◌/◌, ◌%◌, ◌^◌, ◌≤◌, ◌<◌, arith, not, List, [], ◌∷◌, ◌++◌, append-nil, ◌≡◌, refl, sym, ap, ◌∙◌, length, get_or, take, le-ltb, ltb-false, eq-eqb}
-use Rattle.refusal.specs.declared.Outcome.TheVariants as outcome
+use Rattle.std.specs.Prelude.{Ok}
 use Rattle.refusal.specs.Chain.{first_of}
 use Rattle.lemmas.proofs.Cases.{false-or}
 use Rattle.refusal.proofs.Chains.{accepted_pass, first_next, first_after}
@@ -33,7 +33,7 @@ pub record Fits (h : Head) (sizes : List ℕ) : Type 0 where
   pub chunk : h.chunk_shift ≡ h.unit_shift
   pub cluster : h.cluster_shift ≤ 31
 
-pub fits : (h : Head) (sizes : List ℕ) → first_of (write_checks h sizes) ≡ outcome.Accepted → Fits h sizes
+pub fits : (h : Head) (sizes : List ℕ) → first_of (write_checks h sizes) ≡ Ok tt → Fits h sizes
 unfolding write_checks
 fits h sizes e =
     let p = accepted_pass (write_checks h sizes) e in

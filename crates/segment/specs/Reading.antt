@@ -1,5 +1,6 @@
 -- Document 02, No. 1: what the reader answers.
-use Rattle.std.specs.Prelude.{ℕ, ◌*◌, ◌^◌, cond, List, [], ◌∷◌, ltb, length}
+use Rattle.std.specs.Prelude.{ℕ, ◌*◌, ◌^◌, cond, List, [], ◌∷◌, ltb, length, Result, Ok, Err, Option, None, Some}
+use Rattle.refusal.specs.declared.Refusal.{Refusal}
 use Rattle.refusal.specs.declared.Refusal.TheVariants.{TooLong, Short, LengthsDisagree, WrongMark, WrongShifts}
 use Rattle.refusal.specs.Chain.{Check, ◌⇒◌, first_of, unless_refused}
 use Rattle.refusal.specs.Number.{number_of}
@@ -7,10 +8,6 @@ use Rattle.wire.specs.declared.Span.{Span}
 use Rattle.wire.specs.Parts.{part_of}
 use Rattle.segment.specs.declared.Head.{Head}
 use Rattle.segment.specs.declared.Segment.{Segment}
-use Rattle.segment.specs.declared.SegmentRead.{SegmentRead}
-use Rattle.segment.specs.declared.SegmentRead.TheVariants.{Accepted, Refused}
-use Rattle.segment.specs.declared.SizeRead.{SizeRead}
-use Rattle.segment.specs.declared.SizeRead.TheVariants as size
 use Rattle.segment.specs.Layout.{length_field, zero_bytes, unit_shift, chunk_shift, cluster_shift, one_byte, block_count, size_at, head_of, lengths_disagree, marks_wrong, shifts_wrong, larger_than}
 
 unfoldable pub segment_checks : List ℕ → List Check
@@ -39,24 +36,24 @@ shown s =
     }
 
 -- what the reader answers
-unfoldable pub segment_of : List ℕ → SegmentRead
-segment_of s = unless_refused Refused (first_of (segment_checks s)) (Accepted (shown s))
+unfoldable pub segment_of : List ℕ → Result Segment Refusal
+segment_of s = unless_refused Err (first_of (segment_checks s)) (Ok (shown s))
 
 -- document 01's numbers: 0 and the values, or the refusal's number and zeros
-unfoldable pub segment_number : SegmentRead → ℕ
-segment_number (Accepted t) = 0
-segment_number (Refused r) = number_of r
+unfoldable pub segment_number : Result Segment Refusal → ℕ
+segment_number (Ok t) = 0
+segment_number (Err r) = number_of r
 
 -- the head beside a refusal
 abbrev pub no_head : Head
 no_head = record { start_offset = 0; bytes_in_stream = 0; bytes_in_vdl = 0; unit_shift = 0; chunk_shift = 0; cluster_shift = 0 }
 
-unfoldable pub segment_values : SegmentRead → Segment
-segment_values (Accepted t) = t
-segment_values (Refused r) = record { head = no_head; length = 0; blocks = 0; sizes = record { at = 0; len = 0 }; larger = 0 }
+unfoldable pub segment_values : Result Segment Refusal → Segment
+segment_values (Ok t) = t
+segment_values (Err r) = record { head = no_head; length = 0; blocks = 0; sizes = record { at = 0; len = 0 }; larger = 0 }
 
 -- where the sizes stand; 0 and 0 on a refusal
-abbrev pub span_of : SegmentRead → Span
+abbrev pub span_of : Result Segment Refusal → Span
 span_of r = (segment_values r).sizes
 
 abbrev pub segment_span : List ℕ → Span
@@ -67,21 +64,21 @@ abbrev pub segment_part : List ℕ → List ℕ
 segment_part s = part_of s (segment_span s).at (segment_span s).len
 
 -- the size of the block at an index, none beyond the count; what the reader refuses is refused
-unfoldable pub size_of : List ℕ → ℕ → SizeRead
-size_of s k = unless_refused size.Refused (first_of (segment_checks s)) (cond (ltb k (block_count s)) (size.Size (size_at s k)) size.None)
+unfoldable pub size_of : List ℕ → ℕ → Result (Option ℕ) Refusal
+size_of s k = unless_refused Err (first_of (segment_checks s)) (cond (ltb k (block_count s)) (Ok (Some (size_at s k))) (Ok None))
 
 -- its numbers: 0 and whether there is one, and its size; or the refusal's number and zeros
-unfoldable pub size_number : SizeRead → ℕ
-size_number (size.Size n) = 0
-size_number size.None = 0
-size_number (size.Refused r) = number_of r
+unfoldable pub size_number : Result (Option ℕ) Refusal → ℕ
+size_number (Ok (Some n)) = 0
+size_number (Ok None) = 0
+size_number (Err r) = number_of r
 
-unfoldable pub size_found : SizeRead → ℕ
-size_found (size.Size n) = 1
-size_found size.None = 0
-size_found (size.Refused r) = 0
+unfoldable pub size_found : Result (Option ℕ) Refusal → ℕ
+size_found (Ok (Some n)) = 1
+size_found (Ok None) = 0
+size_found (Err r) = 0
 
-unfoldable pub size_value : SizeRead → ℕ
-size_value (size.Size n) = n
-size_value size.None = 0
-size_value (size.Refused r) = 0
+unfoldable pub size_value : Result (Option ℕ) Refusal → ℕ
+size_value (Ok (Some n)) = n
+size_value (Ok None) = 0
+size_value (Err r) = 0

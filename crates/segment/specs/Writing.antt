@@ -1,10 +1,10 @@
 -- Document 02, No. 1: what the writer makes and answers.
-use Rattle.std.specs.Prelude.{ℕ, List, [], ◌∷◌, ltb, length}
+use Rattle.std.specs.Prelude.{ℕ, List, [], ◌∷◌, ltb, length, Result}
+use Rattle.refusal.specs.declared.Refusal.{Refusal}
 use Rattle.refusal.specs.declared.Refusal.TheVariants.{TooLong, WrongShifts}
 use Rattle.refusal.specs.Chain.{Check, ◌⇒◌, first_of}
 use Rattle.wire.specs.Numbers.{le_bytes}
 use Rattle.wire.specs.Parts.{joined, le32_bytes}
-use Rattle.records.specs.declared.Written.{Written}
 use Rattle.records.specs.Writing.{written_of}
 use Rattle.segment.specs.declared.Head.{Head}
 use Rattle.segment.specs.Layout.{length_for, shifts_wrong}
@@ -40,5 +40,5 @@ write_checks h sizes =
     ∷ []
 
 -- what those checks say, then 13 where the output has not that many bytes
-abbrev pub segment_written : Head → List ℕ → ℕ → Written
+abbrev pub segment_written : Head → List ℕ → ℕ → Result ℕ Refusal
 segment_written h sizes room = written_of (first_of (write_checks h sizes)) (segment_length sizes) room

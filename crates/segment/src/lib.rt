@@ -60,8 +60,8 @@ impl SegmentRead {
         ensures { result ≡ span_of self }
     {
         match self {
-            SegmentRead::Accepted(segment) => segment.sizes,
-            SegmentRead::Refused(_) => Span { at: 0, len: 0 },
+            Ok(segment) => segment.sizes,
+            Err(_) => Span { at: 0, len: 0 },
         }
     }
 }
@@ -71,11 +71,11 @@ pub fn read(s: &[u8]) -> SegmentRead
     ensures { result ≡ segment_of s.now }
 {
     match judge(s) {
-        Outcome::Accepted => {
-            return SegmentRead::Accepted(shown(s));
+        Ok(()) => {
+            return Ok(shown(s));
         }
-        Outcome::Refused(refusal) => {
-            return SegmentRead::Refused(refusal);
+        Err(refusal) => {
+            return Err(refusal);
         }
     }
 }
@@ -86,25 +86,25 @@ fn judge(s: &[u8]) -> Outcome
 {
     let len = s.len();
     if LIMIT < len {
-        return Outcome::Refused(Refusal::TooLong);
+        return Err(Refusal::TooLong);
     }
     if len < 28 {
-        return Outcome::Refused(Refusal::Short);
+        return Err(Refusal::Short);
     }
     if do_disagree(le32_at(s, 8), le16_at(s, 26), len) {
-        return Outcome::Refused(Refusal::LengthsDisagree);
+        return Err(Refusal::LengthsDisagree);
     }
     if are_marks_wrong(le16_at(s, 20), byte_at(s, 25)) {
-        return Outcome::Refused(Refusal::WrongMark);
+        return Err(Refusal::WrongMark);
     }
     if are_shifts_wrong(
         byte_at(s, 22) as u32,
         byte_at(s, 23) as u32,
         byte_at(s, 24) as u32,
     ) {
-        return Outcome::Refused(Refusal::WrongShifts);
+        return Err(Refusal::WrongShifts);
     }
-    Outcome::Accepted
+    Ok(())
 }
 
 // 3 unless Length is the record's length and at least 28 plus four per block.
@@ -189,13 +189,13 @@ fn larger(s: &[u8], blocks: u16, unit: u32) -> u32
 pub fn size(s: &[u8], index: usize) -> SizeRead
     ensures { result ≡ size_of s.now index }
 {
-    if let Outcome::Refused(refusal) = judge(s) {
-        return SizeRead::Refused(refusal);
+    if let Err(refusal) = judge(s) {
+        return Err(refusal);
     }
     if le16_at(s, 26) as usize <= index {
-        return SizeRead::None;
+        return Ok(None);
     }
-    SizeRead::Size(le32_at(s, 28 + 4 * index))
+    Ok(Some(le32_at(s, 28 + 4 * index)))
 }
 
 // The bytes of the sizes: those very bytes of s, or the empty part on a refusal.
@@ -212,15 +212,15 @@ pub fn write(out: &mut [u8], head: Head, sizes: &[u32]) -> Written
     ensures answer { result ≡ segment_written head sizes.now (length out.old) }
     ensures output { out.new ≡ output_of result (segment_bytes head sizes.now) out.old }
 {
-    if let Outcome::Refused(refusal) = judge_given(head, sizes) {
-        return Written::Refused(refusal);
+    if let Err(refusal) = judge_given(head, sizes) {
+        return Err(refusal);
     }
     let len = 28 + 4 * sizes.len();
     if out.len() < len {
-        return Written::Refused(Refusal::NoRoom);
+        return Err(Refusal::NoRoom);
     }
     put(out, head, sizes);
-    Written::Length(len)
+    Ok(len)
 }
 
 // 1, 25: what the reader would say of the bytes.
@@ -228,12 +228,12 @@ fn judge_given(head: Head, sizes: &[u32]) -> Outcome
     ensures { result ≡ first_of (write_checks head sizes.now) }
 {
     if MOST_BLOCKS < sizes.len() {
-        return Outcome::Refused(Refusal::TooLong);
+        return Err(Refusal::TooLong);
     }
     if are_shifts_wrong(head.unit_shift, head.chunk_shift, head.cluster_shift) {
-        return Outcome::Refused(Refusal::WrongShifts);
+        return Err(Refusal::WrongShifts);
     }
-    Outcome::Accepted
+    Ok(())
 }
 
 // The start offset, the numbers of four bytes behind it, and the sizes, each into its own part of the output. The fixed bytes, the

@@ -1,8 +1,9 @@
 -- Laws of the choice: when an envelope serves, by which key, and what is chosen of two.
 use Rattle.lemmas.proofs.Basics.{ℕ, ◌<◌, arith, Bool, true, false, cond, ◌&&◌, true≢false, List, ◌≡◌, refl, sym, ap, ◌∙◌, eqb, length, ne_eqb}
+use Rattle.std.specs.Prelude.{Ok, Err, Option, None}
+use Rattle.serving.specs.declared.Serving.{Serving}
 use Rattle.lemmas.proofs.Cases.{by_cases, cond_cases, both_true, true-or, false-or}
-use Rattle.refusal.specs.declared.Outcome.{Outcome}
-use Rattle.refusal.specs.declared.Outcome.TheVariants as outcome
+use Rattle.refusal.specs.Outcome.{Outcome}
 use Rattle.refusal.specs.Chain.{first_of, unless_refused}
 use Rattle.refusal.specs.declared.Refusal.TheVariants.{NeitherServes}
 use Rattle.refusal.proofs.Numbers.{number_not-zero}
@@ -29,8 +30,6 @@ use Rattle.envelope.proofs.ExactlyWhen.{accepted-keys}
 use Rattle.envelope.proofs.Forms.{absent_l1, absent_l2, public_none, keys_64}
 use Rattle.serving.specs.declared.SeedKey.{SeedKey}
 use Rattle.serving.specs.declared.SeedKey.TheVariants.{L1, L2}
-use Rattle.serving.specs.declared.Served.{Served}
-use Rattle.serving.specs.declared.Served.TheVariants.{By, No}
 use Rattle.serving.specs.declared.Choice.{Choice}
 use Rattle.serving.specs.declared.Choice.TheVariants.{Cached, Fetched, Neither}
 use Rattle.serving.specs.Serving.{Serves}
@@ -53,9 +52,9 @@ pub record Key (s : List ℕ) (i : Gkid) (key : SeedKey) (part : List ℕ) : Typ
   pub size : length part ≡ 64
 
 -- what it says that an envelope serves by a key, or does not serve
-abbrev pub Says : List ℕ → RootId → Gkid → Served → Type 0
-Says s root i (By key span) = Serves s root i × Key s i key (part_of s span.at span.len)
-Says s root i No = Serves s root i → ⊥
+abbrev pub Says : List ℕ → RootId → Gkid → Option Serving → Type 0
+Says s root i (SomeBy key span) = Serves s root i × Key s i key (part_of s span.at span.len)
+Says s root i None = Serves s root i → ⊥
 
 -- An accepted envelope.
 module _ (s : List ℕ) (i : Gkid) (z : envelope_number (envelope_of s) ≡ 0) where
@@ -95,13 +94,13 @@ unfolding envelope_of envelope_number unless_refused served_by shown
 served s root i = told (first_of (envelope_checks s)) refl
   where
     told : (o : Outcome) → first_of (envelope_checks s) ≡ o → Says s root i (served_by (envelope_of s) root i)
-    told outcome.Accepted e =
+    told (Ok tt) e =
         let z : envelope_number (envelope_of s) ≡ 0 = rw e in
         rw (accepted-shown s z)
         (cond_cases (Says s root i) (same_root (head_of s).root root)
         (λ q. key_says s i z root (same_root_lem _ _ q))
         (λ q serves. true≢false (sym (root-same root) ∙ ap (λ own. same_root own root) (sym serves.has_root) ∙ q)))
-    told (outcome.Refused r) e = rw e (λ serves. number_not-zero r (rw e at serves.accepted))
+    told (Err r) e = rw e (λ serves. number_not-zero r (rw e at serves.accepted))
 
 -- What an envelope that serves is not: public, or with no key; and an index above 31 is served by nothing.
 module _ (s : List ℕ) (root : RootId) (i : Gkid) (serves : Serves s root i) where
@@ -134,19 +133,19 @@ reached_by-one s i z k1 k2 = not_by_both _ (head_of s).at i _ _ _ (accepted-keys
 
 -- what a choice says of two envelopes: the cached one if that serves, else the fetched one, else neither
 abbrev pub ChoiceSays : RootId → Gkid → List ℕ → List ℕ → Choice → Type 0
-ChoiceSays root i cached fetched (Cached key span) = Says cached root i (By key span)
-ChoiceSays root i cached fetched (Fetched key span) = Says cached root i No × Says fetched root i (By key span)
-ChoiceSays root i cached fetched Neither = Says cached root i No × Says fetched root i No
+ChoiceSays root i cached fetched (Cached key span) = Says cached root i (SomeBy key span)
+ChoiceSays root i cached fetched (Fetched key span) = Says cached root i None × Says fetched root i (SomeBy key span)
+ChoiceSays root i cached fetched Neither = Says cached root i None × Says fetched root i None
 
 module _ (root : RootId) (i : Gkid) (cached fetched : List ℕ) where
   pub choice_says : ChoiceSays root i cached fetched (choice_of root i cached fetched)
   unfolding prefer
   choice_says = of (served_by (envelope_of cached) root i) (served_by (envelope_of fetched) root i) (served cached root i) (served fetched root i)
     where
-      of : (a b : Served) → Says cached root i a → Says fetched root i b → ChoiceSays root i cached fetched (prefer a b)
-      of (By key span) b x y = x
-      of No (By key span) x y = (x, y)
-      of No No x y = (x, y)
+      of : (a b : Option Serving) → Says cached root i a → Says fetched root i b → ChoiceSays root i cached fetched (prefer a b)
+      of (SomeBy key span) b x y = x
+      of None (SomeBy key span) x y = (x, y)
+      of None None x y = (x, y)
 
   -- The part is 64 bytes where a key is chosen, and empty exactly where 23 is answered.
   pub part_length : length (chosen_part (choice_of root i cached fetched) cached fetched) ≡ cond (eqb (choice_number (choice_of root i cached fetched)) 0) 64 0

@@ -1,9 +1,9 @@
 -- Document 02, No. 4, of whole envelopes: what the house rule accepts and the published key rule does not is a public envelope with its key. It
 -- reaches nothing and serves nothing, so that every reach and every choice is as by the published rule.
 use Rattle.lemmas.proofs.Basics.{ℕ, Bool, true, false, cond, true≢false, List, ◌≡◌, refl, sym, ap, ◌∙◌, ne_eqb}
+use Rattle.std.specs.Prelude.{Ok, Err}
 use Rattle.lemmas.proofs.Cases.{by_cases}
-use Rattle.refusal.specs.declared.Outcome.{Outcome}
-use Rattle.refusal.specs.declared.Outcome.TheVariants as outcome
+use Rattle.refusal.specs.Outcome.{Outcome}
 use Rattle.refusal.specs.Chain.{first_of, unless_refused}
 use Rattle.gkid.specs.declared.Gkid.{Gkid}
 use Rattle.gkid.proofs.Order.{not_above}
@@ -26,7 +26,7 @@ use Rattle.serving.proofs.Choosing.{serves_seed}
 
 -- An accepted public envelope reaches nothing, with its key or without, at every identifier.
 pub public_reaches-nothing : (s : List ℕ) → envelope_number (envelope_of s) ≡ 0 → is_public (head_of s).flags ≡ true
-    → envelope_reach s ≡ record { outcome = outcome.Accepted; rows = empty_map }
+    → envelope_reach s ≡ record { outcome = Ok tt; rows = empty_map }
 unfolding reach_of form_reach keys_of shown
 public_reaches-nothing s z p = rw (accepted-shown s z, public_none (shown s) p) (keyless_reach (head_of s).at ∙ rw (not_above (head_of s).at (accepted-keys s z).0))
 
@@ -54,5 +54,5 @@ unfolding envelope_of envelope_number unless_refused reach_of refused_reach reac
 reach_as_published s = by_cases (λ t. published_keys s ≡ t → reach_rows (envelope_reach s) ≡ cond t (reach_rows (envelope_reach s)) empty_map) (published_keys s) (λ _ _. refl) (λ _. told (first_of (envelope_checks s)) refl) refl
   where
     told : (o : Outcome) → first_of (envelope_checks s) ≡ o → published_keys s ≡ false → reach_rows (envelope_reach s) ≡ empty_map
-    told outcome.Accepted e against = let z : envelope_number (envelope_of s) ≡ 0 = rw e in ap reach_rows (public_reaches-nothing s z (only s z against).is_public_lem)
-    told (outcome.Refused r) e against = rw e
+    told (Ok tt) e against = let z : envelope_number (envelope_of s) ≡ 0 = rw e in ap reach_rows (public_reaches-nothing s z (only s z against).is_public_lem)
+    told (Err r) e against = rw e

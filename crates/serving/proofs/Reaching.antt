@@ -1,7 +1,7 @@
 -- Laws of the reach of an envelope: the map of its own seed keys; and a form's reach is that of an envelope which is written with just those keys.
 use Rattle.lemmas.proofs.Basics.{ℕ, ◌≤◌, Bool, true, false, not, List, ◌≡◌, refl, sym, ap, ◌∙◌, eqb, length, le-ltb}
-use Rattle.refusal.specs.declared.Outcome.{Outcome}
-use Rattle.refusal.specs.declared.Outcome.TheVariants as outcome
+use Rattle.std.specs.Prelude.{Ok, Err}
+use Rattle.refusal.specs.Outcome.{Outcome}
 use Rattle.refusal.specs.Chain.{first_of, unless_refused}
 use Rattle.refusal.proofs.Chains.{first_next, first_after, accepted-append, follows}
 use Rattle.gkid.specs.declared.Gkid.{Gkid}
@@ -14,7 +14,6 @@ use Rattle.reach.specs.Reached.{reaches}
 use Rattle.reach.specs.Reaches.{map_reach, keys_reach, form_reach, reached_in}
 use Rattle.reach.proofs.MapLaws.{in_map_lem}
 use Rattle.envelope.specs.declared.Head.{Head}
-use Rattle.envelope.specs.declared.EnvelopeRead.TheVariants as read
 use Rattle.envelope.specs.Layout.{head_of, is_public, bodies_of}
 use Rattle.envelope.specs.Reading.{envelope_checks, four_texts, body_checks, shown, envelope_of, envelope_number, form_of}
 use Rattle.envelope.specs.Writing.{Given, envelope_length, envelope_bytes, write_checks}
@@ -71,6 +70,6 @@ module _ (form : Form) (h : Head) (g : Given) (fit : Fit h) (c : Carries form h 
   unfolding envelope_of reach_of form_reach unless_refused keys_reach shown
   form_envelope = rw same-checks (told (first_of (seed_checks (keys_of form) h.at)) refl)
     where
-      told : (o : Outcome) → first_of (seed_checks (keys_of form) h.at) ≡ o → reach_of (unless_refused read.Refused o (read.Accepted (shown written))) ≡ form_reach form h.at
-      told outcome.Accepted e = rw (same_keys, is_head h g fit c.limit)
-      told (outcome.Refused r) e = rw e
+      told : (o : Outcome) → first_of (seed_checks (keys_of form) h.at) ≡ o → reach_of (unless_refused Err o (Ok (shown written))) ≡ form_reach form h.at
+      told (Ok tt) e = rw (same_keys, is_head h g fit c.limit)
+      told (Err r) e = rw e

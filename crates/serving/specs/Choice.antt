@@ -1,5 +1,7 @@
 -- Document 01, "Reach, and the two envelopes": which of two envelopes serves an identifier, and by which key.
-use Rattle.std.specs.Prelude.{ℕ, cond, ◌&&◌, List, []}
+use Rattle.std.specs.Prelude.{ℕ, cond, ◌&&◌, List, [], Result, Ok, Err, Option, None}
+use Rattle.serving.specs.declared.Serving.{Serving}
+use Rattle.refusal.specs.declared.Refusal.{Refusal}
 use Rattle.refusal.specs.declared.Refusal.TheVariants.{NeitherServes}
 use Rattle.refusal.specs.Number.{number_of}
 use Rattle.wire.specs.declared.Span.{Span}
@@ -10,33 +12,29 @@ use Rattle.rootid.specs.Root.{same_root}
 use Rattle.keys.specs.Forms.{keys_of}
 use Rattle.reach.specs.Reached.{l1_reaches, l2_reaches}
 use Rattle.envelope.specs.declared.Envelope.{Envelope}
-use Rattle.envelope.specs.declared.EnvelopeRead.{EnvelopeRead}
-use Rattle.envelope.specs.declared.EnvelopeRead.TheVariants as read
 use Rattle.envelope.specs.Reading.{envelope_of, form_of}
 use Rattle.serving.specs.declared.SeedKey.TheVariants.{L1, L2}
-use Rattle.serving.specs.declared.Served.{Served}
-use Rattle.serving.specs.declared.Served.TheVariants.{By, No}
 use Rattle.serving.specs.declared.Choice.{Choice}
 use Rattle.serving.specs.declared.Choice.TheVariants.{Cached, Fetched, Neither}
 
 -- the key that reaches the identifier, and where it stands
-unfoldable pub key_for : Envelope → Gkid → Served
+unfoldable pub key_for : Envelope → Gkid → Option Serving
 key_for e i =
-    cond ((keys_of (form_of e)).l2 && l2_reaches e.head.at i) (By L2 e.bodies.l2_key)
-    (cond ((keys_of (form_of e)).l1 && l1_reaches e.head.at i) (By L1 e.bodies.l1_key)
-    No)
+    cond ((keys_of (form_of e)).l2 && l2_reaches e.head.at i) (SomeBy L2 e.bodies.l2_key)
+    (cond ((keys_of (form_of e)).l1 && l1_reaches e.head.at i) (SomeBy L1 e.bodies.l1_key)
+    None)
 
 -- an envelope serves if it is accepted, has that root and L0, and reaches the identifier (what is reached has the same L0); said of its
 -- bytes this is `Serves`
-unfoldable pub served_by : EnvelopeRead → RootId → Gkid → Served
-served_by (read.Accepted e) root i = cond (same_root e.head.root root) (key_for e i) No
-served_by (read.Refused r) root i = No
+unfoldable pub served_by : Result Envelope Refusal → RootId → Gkid → Option Serving
+served_by (Ok e) root i = cond (same_root e.head.root root) (key_for e i) None
+served_by (Err r) root i = None
 
 -- from the cached one if that serves, else the fetched one, else neither
-unfoldable pub prefer : Served → Served → Choice
-prefer (By key span) fetched = Cached key span
-prefer No (By key span) = Fetched key span
-prefer No No = Neither
+unfoldable pub prefer : Option Serving → Option Serving → Choice
+prefer (SomeBy key span) fetched = Cached key span
+prefer None (SomeBy key span) = Fetched key span
+prefer None None = Neither
 
 abbrev pub choice_of : RootId → Gkid → List ℕ → List ℕ → Choice
 choice_of root i cached fetched = prefer (served_by (envelope_of cached) root i) (served_by (envelope_of fetched) root i)

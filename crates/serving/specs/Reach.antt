@@ -1,16 +1,16 @@
 -- Document 01, "Reach, and the two envelopes": the reach of an envelope.
-use Rattle.std.specs.Prelude.{ℕ, List}
+use Rattle.std.specs.Prelude.{ℕ, List, Result, Ok, Err}
+use Rattle.refusal.specs.declared.Refusal.{Refusal}
+use Rattle.envelope.specs.declared.Envelope.{Envelope}
 use Rattle.keys.specs.Forms.{keys_of}
 use Rattle.reach.specs.declared.Reach.{Reach}
 use Rattle.reach.specs.Reaches.{keys_reach, refused_reach}
-use Rattle.envelope.specs.declared.EnvelopeRead.{EnvelopeRead}
-use Rattle.envelope.specs.declared.EnvelopeRead.TheVariants.{Accepted, Refused}
 use Rattle.envelope.specs.Reading.{envelope_of, form_of}
 
 -- an accepted envelope reaches what its keys reach; a refused one has its refusal, and reaches nothing
-unfoldable pub reach_of : EnvelopeRead → Reach
-reach_of (Accepted e) = keys_reach (keys_of (form_of e)) e.head.at
-reach_of (Refused r) = refused_reach r
+unfoldable pub reach_of : Result Envelope Refusal → Reach
+reach_of (Ok e) = keys_reach (keys_of (form_of e)) e.head.at
+reach_of (Err r) = refused_reach r
 
 abbrev pub envelope_reach : List ℕ → Reach
 envelope_reach s = reach_of (envelope_of s)

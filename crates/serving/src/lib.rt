@@ -39,12 +39,12 @@ pub fn envelope_reach(s: &[u8]) -> Reach
     ensures { result ≡ envelope_reach s.now }
 {
     match envelope::read(s) {
-        EnvelopeRead::Accepted(envelope) => {
+        Ok(envelope) => {
             let head = envelope.head;
             let at = head.at;
             return Reach::of(seed_keys_of(envelope), at);
         }
-        EnvelopeRead::Refused(refusal) => {
+        Err(refusal) => {
             return Reach::refused(refusal);
         }
     }
@@ -61,12 +61,12 @@ fn key_for(envelope: Envelope, wanted: Gkid) -> Served
     let l1_key = bodies.l1_key;
     let l2_key = bodies.l2_key;
     if keys.l2 & reach::l2_reaches(at, wanted) {
-        return Served::By(SeedKey::L2, l2_key);
+        return SomeBy(SeedKey::L2, l2_key);
     }
     if keys.l1 & reach::l1_reaches(at, wanted) {
-        return Served::By(SeedKey::L1, l1_key);
+        return SomeBy(SeedKey::L1, l1_key);
     }
-    Served::No
+    None
 }
 
 // An envelope serves if it is accepted, has that root and L0, and reaches the identifier.
@@ -74,15 +74,15 @@ fn served_by(s: &[u8], root: RootId, wanted: Gkid) -> Served
     ensures { result ≡ served_by (envelope_of s.now) root wanted }
 {
     match envelope::read(s) {
-        EnvelopeRead::Accepted(envelope) => {
+        Ok(envelope) => {
             let head = envelope.head;
             let own = head.root;
             if own.is(root) {
                 return key_for(envelope, wanted);
             }
-            Served::No
+            None
         }
-        EnvelopeRead::Refused(_) => Served::No,
+        Err(_) => None,
     }
 }
 
@@ -91,10 +91,10 @@ pub fn choose(root: RootId, wanted: Gkid, cached: &[u8], fetched: &[u8]) -> Choi
     ensures { result ≡ choice_of root wanted cached.now fetched.now }
 {
     match served_by(cached, root, wanted) {
-        Served::By(key, span) => Choice::Cached(key, span),
-        Served::No => match served_by(fetched, root, wanted) {
-            Served::By(key, span) => Choice::Fetched(key, span),
-            Served::No => Choice::Neither,
+        SomeBy(key, span) => Choice::Cached(key, span),
+        None => match served_by(fetched, root, wanted) {
+            SomeBy(key, span) => Choice::Fetched(key, span),
+            None => Choice::Neither,
         },
     }
 }

@@ -1,13 +1,12 @@
 -- Laws of totals: a total is that of its two parts merged; merging is associative, with the total of no record as its unit; and accepted
 -- and refused are all.
 use Rattle.lemmas.proofs.Basics.{ℕ, ◌+◌, ◌-◌, ◌^◌, ◌≤◌, ◌<◌, arith, add-zero, Bool, true, false, not, ◌&&◌, List, [], ◌∷◌, ◌++◌, append-nil, ◌≡◌, refl, sym, ap, ◌∙◌, ltb, leb, length, ltb-true, lt-ltb, le-ltb, leb-true, leb-false}
+use Rattle.std.specs.Prelude.{Option, Some, None}
+use Rattle.gkid.specs.declared.FileTime.{FileTime}
+use Rattle.tally.specs.declared.Ends.{Ends}
 use Rattle.lemmas.specs.Counting.{bit}
 use Rattle.lemmas.proofs.Cases.{by_cases, both_true}
-use Rattle.tally.specs.declared.Clock.{Clock}
-use Rattle.tally.specs.declared.Clock.TheVariants as clock
 use Rattle.tally.specs.declared.Counted.{Counted}
-use Rattle.tally.specs.declared.Clocks.{Clocks}
-use Rattle.tally.specs.declared.Clocks.TheVariants.{None, Between}
 use Rattle.tally.specs.declared.Tally.{Tally}
 use Rattle.tally.specs.Totals.{accepted_in, refused_in, with_clock, clocks_in, earlier_behind, earlier_in, last_behind, ends_of, tally_of}
 use Rattle.tally.specs.Merging.{seam, joined_ends, merge, fits}
@@ -37,9 +36,9 @@ unfolding clocks_in with_clock
 clocks_append [] ys = refl
 clocks_append (x ∷ xs) ys = ap (with_clock x.clock) (clocks_append xs ys) ∙ put x.clock
   where
-    put : (c : Clock) → with_clock c (clocks_in xs ++ clocks_in ys) ≡ with_clock c (clocks_in xs) ++ clocks_in ys
-    put clock.None = refl
-    put (clock.At time) = refl
+    put : (c : Option FileTime) → with_clock c (clocks_in xs ++ clocks_in ys) ≡ with_clock c (clocks_in xs) ++ clocks_in ys
+    put None = refl
+    put (Some time) = refl
 
 -- Clocks behind a clock, and others behind those.
 earlier_behind_lem : (before : ℕ) (ks bs : List ℕ) → earlier_behind before (ks ++ bs) ≡ earlier_behind before ks + earlier_behind (last_behind before ks) bs
@@ -61,8 +60,8 @@ earlier-append (a ∷ ks) (b ∷ bs) = omega (arith, earlier_behind_lem a ks (b 
 ends_append : (ks bs : List ℕ) → ends_of (ks ++ bs) ≡ joined_ends (ends_of ks) (ends_of bs)
 unfolding ends_of joined_ends last_behind
 ends_append [] bs = refl
-ends_append (a ∷ ks) [] = ap (λ t. Between (record { 0 = a }) (record { 0 = last_behind a t })) (append-nil ks)
-ends_append (a ∷ ks) (b ∷ bs) = ap (λ n. Between (record { 0 = a }) (record { 0 = n })) (last_behind_lem a ks (b ∷ bs))
+ends_append (a ∷ ks) [] = ap (λ t. SomeEnds (record { 0 = a }) (record { 0 = last_behind a t })) (append-nil ks)
+ends_append (a ∷ ks) (b ∷ bs) = ap (λ n. SomeEnds (record { 0 = a }) (record { 0 = n })) (last_behind_lem a ks (b ∷ bs))
 
 -- The total of a trace is the totals of its two parts, merged.
 pub tally_append : (xs ys : List Counted) → tally_of (xs ++ ys) ≡ merge (tally_of xs) (tally_of ys)
@@ -78,19 +77,19 @@ tally_append xs ys =
     }
 
 -- Merging is associative: pieces may be merged in any grouping.
-seams : (a b c : Clocks) → seam a b + seam (joined_ends a b) c ≡ seam b c + seam a (joined_ends b c)
+seams : (a b c : Option Ends) → seam a b + seam (joined_ends a b) c ≡ seam b c + seam a (joined_ends b c)
 unfolding seam joined_ends
 seams None b c = omega arith
-seams (Between p q) None c = omega arith
-seams (Between p q) (Between r s) None = omega arith
-seams (Between p q) (Between r s) (Between t u) = omega arith
+seams (SomeEnds p q) None c = omega arith
+seams (SomeEnds p q) (SomeEnds r s) None = omega arith
+seams (SomeEnds p q) (SomeEnds r s) (SomeEnds t u) = omega arith
 
-ends_assoc : (a b c : Clocks) → joined_ends (joined_ends a b) c ≡ joined_ends a (joined_ends b c)
+ends_assoc : (a b c : Option Ends) → joined_ends (joined_ends a b) c ≡ joined_ends a (joined_ends b c)
 unfolding joined_ends
 ends_assoc None b c = refl
-ends_assoc (Between p q) None c = refl
-ends_assoc (Between p q) (Between r s) None = refl
-ends_assoc (Between p q) (Between r s) (Between t u) = refl
+ends_assoc (SomeEnds p q) None c = refl
+ends_assoc (SomeEnds p q) (SomeEnds r s) None = refl
+ends_assoc (SomeEnds p q) (SomeEnds r s) (SomeEnds t u) = refl
 
 pub merge-assoc : (x y z : Tally) → merge (merge x y) z ≡ merge x (merge y z)
 unfolding merge
@@ -111,19 +110,19 @@ merge_none x =
       (λ i. record { accepted = add-zero x.accepted i; refused = add-zero x.refused i; earlier = behind i; clocks = ends_none x.clocks i }),
     )
   where
-    seam-none : (a : Clocks) → seam a None ≡ 0
+    seam-none : (a : Option Ends) → seam a None ≡ 0
     seam-none None = refl
-    seam-none (Between p q) = refl
+    seam-none (SomeEnds p q) = refl
 
-    ends_none : (a : Clocks) → joined_ends a None ≡ a
+    ends_none : (a : Option Ends) → joined_ends a None ≡ a
     ends_none None = refl
-    ends_none (Between p q) = refl
+    ends_none (SomeEnds p q) = refl
 
 -- One clock is not earlier than any before it.
-pub one_earlier : (c : Clock) → earlier_in (with_clock c []) ≡ 0
+pub one_earlier : (c : Option FileTime) → earlier_in (with_clock c []) ≡ 0
 unfolding earlier_in earlier_behind with_clock
-one_earlier clock.None = refl
-one_earlier (clock.At time) = refl
+one_earlier None = refl
+one_earlier (Some time) = refl
 
 -- A sum of 64 bits, by what is left above its first numbers.
 pub sum_fits : (a b c : ℕ) → a < 2 ^ 64 → b ≤ 18446744073709551615 - a → leb c (18446744073709551615 - a - b) ≡ ltb (a + b + c) (2 ^ 64)

@@ -1,11 +1,9 @@
 -- Document 02, No. 7: the total of a trace, over what is counted of each of its records.
-use Rattle.std.specs.Prelude.{ℕ, ◌+◌, not, List, [], ◌∷◌, ltb}
+use Rattle.std.specs.Prelude.{ℕ, ◌+◌, not, List, [], ◌∷◌, ltb, Option, Some, None}
+use Rattle.gkid.specs.declared.FileTime.{FileTime}
+use Rattle.tally.specs.declared.Ends.{Ends}
 use Rattle.lemmas.specs.Counting.{bit}
-use Rattle.tally.specs.declared.Clock.{Clock}
-use Rattle.tally.specs.declared.Clock.TheVariants as clock
 use Rattle.tally.specs.declared.Counted.{Counted}
-use Rattle.tally.specs.declared.Clocks.{Clocks}
-use Rattle.tally.specs.declared.Clocks.TheVariants.{None, Between}
 use Rattle.tally.specs.declared.Tally.{Tally}
 
 -- "accepted"
@@ -19,9 +17,9 @@ refused_in [] = 0
 refused_in (c ∷ cs) = bit (not c.accepted) + refused_in cs
 
 -- the clocks in order, "26 left out": such a record has none that counts
-unfoldable pub with_clock : Clock → List ℕ → List ℕ
-with_clock clock.None clocks = clocks
-with_clock (clock.At time) clocks = time.0 ∷ clocks
+unfoldable pub with_clock : Option FileTime → List ℕ → List ℕ
+with_clock None clocks = clocks
+with_clock (Some time) clocks = time.0 ∷ clocks
 
 unfoldable pub clocks_in : List Counted → List ℕ
 clocks_in [] = []
@@ -41,9 +39,9 @@ unfoldable pub last_behind : ℕ → List ℕ → ℕ
 last_behind before [] = before
 last_behind before (clock ∷ clocks) = last_behind clock clocks
 
-unfoldable pub ends_of : List ℕ → Clocks
+unfoldable pub ends_of : List ℕ → Option Ends
 ends_of [] = None
-ends_of (clock ∷ clocks) = Between (record { 0 = clock }) (record { 0 = last_behind clock clocks })
+ends_of (clock ∷ clocks) = SomeEnds (record { 0 = clock }) (record { 0 = last_behind clock clocks })
 
 -- the total; the clocks at its ends stand by for what comes before and after
 unfoldable pub tally_of : List Counted → Tally

@@ -54,7 +54,7 @@ impl Tally {
             accepted: 0,
             refused: 0,
             earlier: 0,
-            clocks: Clocks::None,
+            clocks: None,
         }
     }
 
@@ -90,14 +90,14 @@ impl Tally {
         if fit(self.accepted, next.accepted, 0)
             & (fit(self.refused, next.refused, 0) & fit(self.earlier, next.earlier, more))
         {
-            return Merged::Total(Tally {
+            return Some(Tally {
                 accepted: self.accepted + next.accepted,
                 refused: self.refused + next.refused,
                 earlier: self.earlier + next.earlier + more,
                 clocks: join(before, after),
             });
         }
-        Merged::Full
+        None
     }
 }
 
@@ -117,8 +117,8 @@ fn ends_of(clock: Clock) -> Clocks
     ensures { result ≡ ends_of (with_clock clock []) }
 {
     match clock {
-        Clock::None => Clocks::None,
-        Clock::At(time) => Clocks::Between {
+        None => None,
+        Some(time) => SomeEnds {
             first: time,
             last: time,
         },
@@ -129,8 +129,8 @@ fn ends_of(clock: Clock) -> Clocks
 fn seam_of(before: Clocks, after: Clocks) -> u64
     ensures { result ≡ seam before after }
 {
-    if let Clocks::Between { last, .. } = before {
-        if let Clocks::Between { first, .. } = after {
+    if let SomeEnds { last, .. } = before {
+        if let SomeEnds { first, .. } = after {
             if first.0 < last.0 {
                 return 1;
             }
@@ -143,11 +143,11 @@ fn seam_of(before: Clocks, after: Clocks) -> u64
 fn join(before: Clocks, after: Clocks) -> Clocks
     ensures { result ≡ joined_ends before after }
 {
-    let Clocks::Between { first, .. } = before else {
+    let SomeEnds { first, .. } = before else {
         return after;
     };
-    let Clocks::Between { last, .. } = after else {
+    let SomeEnds { last, .. } = after else {
         return before;
     };
-    Clocks::Between { first, last }
+    SomeEnds { first, last }
 }

@@ -1,6 +1,6 @@
 -- A text is accepted exactly when it is well formed: whole units, the last one zero and no earlier one, and all of them characters.
 use Rattle.lemmas.proofs.Basics.{ℕ, zero, suc, ◌+◌, ◌*◌, ◌<◌, arith, true, false, cond, not, ◌&&◌, true≢false, false≢true, List, [], ◌∷◌, ◌≡◌, refl, sym, ap, ◌∙◌, eqb, length, eqb-true}
-use Rattle.refusal.specs.declared.Outcome.TheVariants.{Accepted}
+use Rattle.std.specs.Prelude.{Ok}
 use Rattle.refusal.specs.Chain.{first_of}
 use Rattle.refusal.proofs.Chains.{accepted_pass, pass_accepted}
 use Rattle.lemmas.proofs.Cases.{by_cases, not-false}
@@ -68,13 +68,13 @@ terminated_is (a ∷ b ∷ s) w = go w.before w.units w.last w.earlier (terminat
         (λ z. more (record { before = before; units = omega arith; last = sym (unit-later a b s before) ∙ last; earlier = λ k h q. earlier (suc k) (omega arith) (unit-later a b s k ∙ q) }))
 
 -- Accepted, so well formed.
-pub text_well_formed : (s : List ℕ) → first_of (text_checks s) ≡ Accepted → WellFormed s
+pub text_well_formed : (s : List ℕ) → first_of (text_checks s) ≡ Ok tt → WellFormed s
 unfolding text_checks
 text_well_formed s e =
     let passed = accepted_pass (text_checks s) e in
     record { terminated = is_terminated s (not-false _ passed.0); characters = paired_characters s (not-false _ passed.1.0) }
 
 -- Well formed, so accepted.
-pub well_formed_text : (s : List ℕ) → WellFormed s → first_of (text_checks s) ≡ Accepted
+pub well_formed_text : (s : List ℕ) → WellFormed s → first_of (text_checks s) ≡ Ok tt
 unfolding text_checks
 well_formed_text s w = pass_accepted (text_checks s) (ap not (terminated_is s w.terminated), (ap not (characters_paired s w.characters), tt))

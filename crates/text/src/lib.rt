@@ -16,10 +16,10 @@ pub fn judge(s: &[u8]) -> Outcome
     ensures { result ≡ first_of (text_checks s.now) }
 {
     if s.len() < 2 {
-        return Outcome::Refused(Refusal::MalformedText);
+        return Err(Refusal::MalformedText);
     }
     if (s.len() % 2 != 0) | (le16_at(s, s.len() - 2) != 0) {
-        return Outcome::Refused(Refusal::MalformedText);
+        return Err(Refusal::MalformedText);
     }
     let last = s.len() / 2 - 1;
     let mut zero = false;
@@ -35,7 +35,7 @@ pub fn judge(s: &[u8]) -> Outcome
         unpaired = unpaired | (is_high(unit) != is_low(next));
         k += 1;
     }
-    Outcome::Accepted
+    Ok(())
         .refuse_if(zero, Refusal::MalformedText)
         .refuse_if(unpaired, Refusal::UnpairedSurrogate)
 }

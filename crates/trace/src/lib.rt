@@ -37,11 +37,11 @@ pub fn read(s: &[u8]) -> RecordRead
     ensures { result ≡ record_of s.now }
 {
     match judge(s) {
-        Outcome::Accepted => {
-            return RecordRead::Accepted(shown(s));
+        Ok(()) => {
+            return Ok(shown(s));
         }
-        Outcome::Refused(refusal) => {
-            return RecordRead::Refused(refusal);
+        Err(refusal) => {
+            return Err(refusal);
         }
     }
 }
@@ -51,19 +51,19 @@ fn judge(s: &[u8]) -> Outcome
     ensures { result ≡ first_of (record_checks s.now) }
 {
     if s.len() < LEN {
-        return Outcome::Refused(Refusal::MalformedRecord);
+        return Err(Refusal::MalformedRecord);
     }
     let flags = s[8];
     if flags % 16 != 0 {
-        return Outcome::Refused(Refusal::MalformedRecord);
+        return Err(Refusal::MalformedRecord);
     }
     if flags / 32 % 4 == 3 {
-        return Outcome::Refused(Refusal::MalformedRecord);
+        return Err(Refusal::MalformedRecord);
     }
     if is_stray(flags / 128, RootId::at(s, 21)) {
-        return Outcome::Refused(Refusal::MalformedRecord);
+        return Err(Refusal::MalformedRecord);
     }
-    Outcome::Accepted
+    Ok(())
 }
 
 // Bits of the identifier are set while no root is given.
@@ -111,9 +111,9 @@ fn root_in(s: &[u8], given: u8) -> Root
     ensures { result ≡ root_of given (root_field s.now) }
 {
     if given == 0 {
-        return Root::None;
+        return None;
     }
-    Root::Given(RootId::at(s, 21))
+    Some(RootId::at(s, 21))
 }
 
 // 32 bits in two's complement: from 2 ^ 31 on, less 2 ^ 32.

@@ -38,45 +38,45 @@ fn bench(rt: &impl Print) -> io::Result<()> {
         root(1),
         [4, 2, 2],
     )?;
-    both_ways(rt, b"decision: no root, named: ", Root::None, [4, 0, 2])?;
-    both_ways(rt, b"decision: next after now: ", Root::None, [5, 3, 8])?;
-    both_ways(rt, b"decision: L1 of -1 alone: ", Root::None, [0, -1, 0])?;
-    both_ways(rt, b"decision: L2 of 32: ", Root::None, [0, 0, 32])
+    both_ways(rt, b"decision: no root, named: ", None, [4, 0, 2])?;
+    both_ways(rt, b"decision: next after now: ", None, [5, 3, 8])?;
+    both_ways(rt, b"decision: L1 of -1 alone: ", None, [0, -1, 0])?;
+    both_ways(rt, b"decision: L2 of 32: ", None, [0, 0, 32])
 }
 
 fn granted(rt: &impl Print) -> io::Result<()> {
-    asked(rt, b"decision: no root, latest: ", Root::None, LATEST)?;
+    asked(rt, b"decision: no root, latest: ", None, LATEST)?;
     asked(rt, b"decision: root given, latest: ", root(1), LATEST)?;
-    asked(rt, b"decision: no root, now: ", Root::None, [5, 3, 7])?;
+    asked(rt, b"decision: no root, now: ", None, [5, 3, 7])?;
     asked(rt, b"decision: root given, now: ", root(1), [5, 3, 7])?;
-    asked(rt, b"decision: no root, L2 of 31: ", Root::None, [5, 2, 31])?;
-    asked(rt, b"decision: no root, L1 of 1: ", Root::None, [5, 1, 0])?;
+    asked(rt, b"decision: no root, L2 of 31: ", None, [5, 2, 31])?;
+    asked(rt, b"decision: no root, L1 of 1: ", None, [5, 1, 0])?;
     asked(rt, b"decision: another root, latest: ", root(2), LATEST)?;
     asked(rt, b"decision: another root, named: ", root(2), [5, 0, 0])
 }
 
 fn indices(rt: &impl Print) -> io::Result<()> {
-    asked(rt, b"decision: L0 of -2: ", Root::None, [-2, -2, -2])?;
+    asked(rt, b"decision: L0 of -2: ", None, [-2, -2, -2])?;
     asked(
         rt,
         b"decision: least L0: ",
-        Root::None,
+        None,
         [-2_147_483_648, 0, 0],
     )?;
     asked(
         rt,
         b"decision: greatest L0: ",
-        Root::None,
+        None,
         [2_147_483_647, 0, 0],
     )?;
-    asked(rt, b"decision: L1 of 32: ", Root::None, [0, 32, 0])?;
-    asked(rt, b"decision: L1 of -2: ", Root::None, [0, -2, 0])?;
-    asked(rt, b"decision: L2 of -2: ", Root::None, [0, 0, -2])?;
-    asked(rt, b"decision: L0 of -1 alone: ", Root::None, [-1, 0, 0])?;
-    asked(rt, b"decision: L2 of -1 alone: ", Root::None, [0, 0, -1])?;
-    asked(rt, b"decision: L0 and L1 of -1: ", Root::None, [-1, -1, 0])?;
-    asked(rt, b"decision: L1 later, L0 now's: ", Root::None, [5, 4, 0])?;
-    asked(rt, b"decision: L0 later: ", Root::None, [6, 0, 0])
+    asked(rt, b"decision: L1 of 32: ", None, [0, 32, 0])?;
+    asked(rt, b"decision: L1 of -2: ", None, [0, -2, 0])?;
+    asked(rt, b"decision: L2 of -2: ", None, [0, 0, -2])?;
+    asked(rt, b"decision: L0 of -1 alone: ", None, [-1, 0, 0])?;
+    asked(rt, b"decision: L2 of -1 alone: ", None, [0, 0, -1])?;
+    asked(rt, b"decision: L0 and L1 of -1: ", None, [-1, -1, 0])?;
+    asked(rt, b"decision: L1 later, L0 now's: ", None, [5, 4, 0])?;
+    asked(rt, b"decision: L0 later: ", None, [6, 0, 0])
 }
 
 fn rights(rt: &impl Print) -> io::Result<()> {
@@ -84,7 +84,7 @@ fn rights(rt: &impl Print) -> io::Result<()> {
         rt,
         b"decision: public, latest: ",
         Rights::Public,
-        Root::None,
+        None,
         LATEST,
     )?;
     allowed(
@@ -98,7 +98,7 @@ fn rights(rt: &impl Print) -> io::Result<()> {
         rt,
         b"decision: public, named: ",
         Rights::Public,
-        Root::None,
+        None,
         [4, 0, 2],
     )?;
     allowed(
@@ -112,7 +112,7 @@ fn rights(rt: &impl Print) -> io::Result<()> {
         rt,
         b"decision: no rights, latest: ",
         Rights::None,
-        Root::None,
+        None,
         LATEST,
     )
 }
@@ -123,7 +123,7 @@ fn tables(rt: &impl Print) -> io::Result<()> {
         rt,
         b"decision: no row, latest: ",
         Rights::Seed,
-        Root::None,
+        None,
         LATEST,
         empty,
     )?;
@@ -131,7 +131,7 @@ fn tables(rt: &impl Print) -> io::Result<()> {
         rt,
         b"decision: no row, public: ",
         Rights::Public,
-        Root::None,
+        None,
         LATEST,
         empty,
     )?;
@@ -147,7 +147,7 @@ fn tables(rt: &impl Print) -> io::Result<()> {
         rt,
         b"decision: no row, named: ",
         Rights::Seed,
-        Root::None,
+        None,
         [4, 0, 2],
         empty,
     )?;
@@ -173,7 +173,7 @@ fn tables(rt: &impl Print) -> io::Result<()> {
         rt,
         b"decision: half a row: ",
         Rights::Seed,
-        Root::None,
+        None,
         LATEST,
         cases::first(&table, 16),
     )?;
@@ -181,7 +181,7 @@ fn tables(rt: &impl Print) -> io::Result<()> {
         rt,
         b"decision: a row and a byte: ",
         Rights::Seed,
-        Root::None,
+        None,
         LATEST,
         cases::first(&table, 33),
     )
@@ -214,7 +214,7 @@ fn ties(rt: &impl Print) -> io::Result<()> {
         rt,
         b"decision: first of the highest use-start: ",
         Rights::Seed,
-        Root::None,
+        None,
         LATEST,
         &table,
     )?;
@@ -222,7 +222,7 @@ fn ties(rt: &impl Print) -> io::Result<()> {
         rt,
         b"decision: first of the highest create time: ",
         Rights::Seed,
-        Root::None,
+        None,
         [4, 0, 2],
         &table,
     )?;
@@ -230,7 +230,7 @@ fn ties(rt: &impl Print) -> io::Result<()> {
         rt,
         b"decision: none in use at 0: ",
         Rights::Seed,
-        Root::None,
+        None,
         [0, 0, 0],
         &table,
     )
@@ -245,7 +245,7 @@ fn starts(rt: &impl Print) -> io::Result<()> {
         rt,
         b"decision: in use from the start on: ",
         Rights::Seed,
-        Root::None,
+        None,
         [4, 0, 2],
         &table,
     )?;
@@ -253,7 +253,7 @@ fn starts(rt: &impl Print) -> io::Result<()> {
         rt,
         b"decision: in use a tick after the start: ",
         Rights::Seed,
-        Root::None,
+        None,
         [4, 0, 2],
         cases::first(&table, 32),
     )?;
@@ -261,7 +261,7 @@ fn starts(rt: &impl Print) -> io::Result<()> {
         rt,
         b"decision: both in use, highest create time: ",
         Rights::Seed,
-        Root::None,
+        None,
         [4, 0, 3],
         &table,
     )?;
@@ -270,7 +270,7 @@ fn starts(rt: &impl Print) -> io::Result<()> {
         rt,
         b"decision: latest, use-start to come: ",
         Rights::Seed,
-        Root::None,
+        None,
         LATEST,
         &table,
     )?;
@@ -314,7 +314,7 @@ fn least() -> [u8; 20] {
 fn described(rt: &impl Print, name: &[u8], descriptor: &[u8], indices: [i32; 3]) -> io::Result<()> {
     let mut table = [0; 32];
     row(&mut table, 0, 1, 3, 4);
-    let asked = request(Root::None, indices);
+    let asked = request(None, indices);
     let answer = getkey::decide(descriptor, Rights::Seed, asked, NOW, &table);
     print(rt, decided(Line::new().text(name), answer))
 }
@@ -325,7 +325,7 @@ fn orders(rt: &impl Print) -> io::Result<()> {
     let refused = getkey::decide_by_verdict(
         false,
         Rights::Seed,
-        request(Root::None, [0, 0, 32]),
+        request(None, [0, 0, 32]),
         NOW,
         &short,
     );
@@ -336,19 +336,19 @@ fn orders(rt: &impl Print) -> io::Result<()> {
             refused,
         ),
     )?;
-    asked(rt, b"decision: 14 before 15: ", Root::None, [0, -1, 32])?;
+    asked(rt, b"decision: 14 before 15: ", None, [0, -1, 32])?;
     asked(
         rt,
         b"decision: 14 before 15, L0 of -2: ",
-        Root::None,
+        None,
         [-2, -1, 0],
     )?;
-    asked(rt, b"decision: 15 before 17: ", Root::None, [6, -1, 0])?;
+    asked(rt, b"decision: 15 before 17: ", None, [6, -1, 0])?;
     allowed(
         rt,
         b"decision: 17 before 18: ",
         Rights::None,
-        Root::None,
+        None,
         [5, 3, 8],
     )?;
     answer(
@@ -370,7 +370,7 @@ fn orders(rt: &impl Print) -> io::Result<()> {
 }
 
 fn root(low: u64) -> Root {
-    Root::Given(RootId { high: 0, low })
+    Some(RootId { high: 0, low })
 }
 
 fn request(root: Root, indices: [i32; 3]) -> Request {
@@ -459,11 +459,11 @@ fn answer(
 // The row or CREATE, or the refusal.
 fn decided(line: Line, answer: Answer) -> Line {
     match answer {
-        Answer::Granted { at, form, row } => granted_form(line, at, form)
+        OkRow { at, form, row } => granted_form(line, at, form)
             .text(b" ROW ")
             .number(row as u64),
-        Answer::Create { at, form } => granted_form(line, at, form).text(b" CREATE"),
-        Answer::Refused(refusal) => words::refused(line, refusal),
+        OkCreate { at, form } => granted_form(line, at, form).text(b" CREATE"),
+        Err(refusal) => words::refused(line, refusal),
     }
 }
 

@@ -198,12 +198,12 @@ fn headed(rt: &impl Print, name: &[u8], len: usize, head: [u32; 8]) -> io::Resul
 
 pub fn read(line: Line, s: &[u8]) -> Line {
     match efskey::read(s) {
-        EfsKeyRead::Accepted(key) => {
+        Ok(key) => {
             let sid = key.sid;
             let certificate = key.certificate;
             shown(line, sid, certificate)
         }
-        EfsKeyRead::Refused(refusal) => words::refused(line, refusal),
+        Err(refusal) => words::refused(line, refusal),
     }
 }
 

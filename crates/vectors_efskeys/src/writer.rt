@@ -137,7 +137,7 @@ fn written(line: Line, out: &mut [u8], room: usize, sid: &[u8], certificate: &[u
     if room <= out.len() {
         let answer = efskey::write(&mut out[0..room], sid, certificate);
         let told = words::written(line, answer);
-        if let Written::Length(len) = answer {
+        if let Ok(len) = answer {
             let back = read_back(told.text(b" "), cases::first(out, len), sid, certificate);
             return kept(back, out, len);
         }

@@ -192,8 +192,8 @@ fn headed(rt: &impl Print, name: &[u8], len: usize, head: [u32; 5], n: u32) -> i
 
 pub fn read(line: Line, s: &[u8]) -> Line {
     match keyentry::read(s) {
-        EntryRead::Accepted(entry) => shown(line, entry),
-        EntryRead::Refused(refusal) => words::refused(line, refusal),
+        Ok(entry) => shown(line, entry),
+        Err(refusal) => words::refused(line, refusal),
     }
 }
 

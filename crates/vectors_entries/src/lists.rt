@@ -144,8 +144,8 @@ fn list(
 
 fn judged(line: Line, list: &[u8]) -> Line {
     match keylist::judge(list) {
-        ListRead::Count(n) => line.text(b"COUNT ").number(n as u64),
-        ListRead::Refused(refusal, index) => refused(line, refusal, index),
+        Ok(n) => line.text(b"COUNT ").number(n as u64),
+        ErrAt(refusal, index) => refused(line, refusal, index),
     }
 }
 
@@ -243,7 +243,7 @@ fn told(line: Line, asked: Asked) -> Line {
 
 fn found(line: Line, step: Step) -> Line {
     match step {
-        Step::Entry(found) => {
+        Ok(Some(found)) => {
             let entry = found.entry;
             let at = line
                 .text(b"ENTRY ")
@@ -252,8 +252,8 @@ fn found(line: Line, step: Step) -> Line {
                 .number(found.at as u64);
             entries::shown(at.text(b" "), entry)
         }
-        Step::End => line.text(b"END"),
-        Step::Refused(refusal, index) => refused(line, refusal, index),
+        Ok(None) => line.text(b"END"),
+        ErrAt(refusal, index) => refused(line, refusal, index),
     }
 }
 

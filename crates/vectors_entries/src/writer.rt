@@ -69,7 +69,7 @@ fn written(line: Line, out: &mut [u8], room: usize, flags: u32, item: &[u8], fek
     if room <= out.len() {
         let answer = keyentry::write(&mut out[0..room], flags, item, fek);
         let told = words::written(line, answer);
-        if let Written::Length(len) = answer {
+        if let Ok(len) = answer {
             let back = read_back(told.text(b" "), cases::first(out, len), item, fek);
             return kept(back, out, len);
         }

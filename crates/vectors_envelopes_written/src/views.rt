@@ -72,13 +72,13 @@ fn named(rt: &impl Print, name: &[u8], text: &[u8], expected: &[u8]) -> io::Resu
 fn view(rt: &impl Print, s: &[u8]) -> io::Result<()> {
     let line = Line::new().text(b"envelope: all values: ");
     match envelope::read(s) {
-        EnvelopeRead::Accepted(envelope) => {
+        Ok(envelope) => {
             let head = envelope.head;
             let bodies = envelope.bodies;
             print(rt, show_bodies(show_head(line, head), bodies))?;
             rewritten(rt, head, s)
         }
-        EnvelopeRead::Refused(refusal) => print(rt, words::refused(line, refusal)),
+        Err(refusal) => print(rt, words::refused(line, refusal)),
     }
 }
 

@@ -212,7 +212,7 @@ fn written(
 // The answer; the record that was written, as it reads back; and whether the output behind it, or all of it on a refusal, is as it was.
 pub fn shown(line: Line, answer: Written, out: &[u8]) -> Line {
     let told = words::written(line, answer);
-    if let Written::Length(len) = answer {
+    if let Ok(len) = answer {
         return kept(
             envline::shown(told.text(b" "), cases::first(out, len)),
             out,

@@ -253,8 +253,8 @@ fn most(rt: &impl Print, name: &[u8], len: u32, fixed: [u8; 8]) -> io::Result<()
 
 pub fn read(line: Line, s: &[u8]) -> Line {
     match segment::read(s) {
-        SegmentRead::Accepted(segment) => shown(line, segment),
-        SegmentRead::Refused(refusal) => words::refused(line, refusal),
+        Ok(segment) => shown(line, segment),
+        Err(refusal) => words::refused(line, refusal),
     }
 }
 

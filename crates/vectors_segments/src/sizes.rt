@@ -55,8 +55,8 @@ fn last(rt: &impl Print, name: &[u8], index: usize) -> io::Result<()> {
 
 fn size(line: Line, s: &[u8], index: usize) -> Line {
     match segment::size(s, index) {
-        SizeRead::Size(bytes) => line.text(b"SIZE ").number(bytes as u64),
-        SizeRead::None => line.text(b"NONE"),
-        SizeRead::Refused(refusal) => words::refused(line, refusal),
+        Ok(Some(bytes)) => line.text(b"SIZE ").number(bytes as u64),
+        Ok(None) => line.text(b"NONE"),
+        Err(refusal) => words::refused(line, refusal),
     }
 }

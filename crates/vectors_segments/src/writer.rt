@@ -181,7 +181,7 @@ fn written(
     if room <= out.len() {
         let answer = segment::write(&mut out[0..room], head, sizes);
         let told = words::written(line, answer);
-        if let Written::Length(len) = answer {
+        if let Ok(len) = answer {
             let back = reader::read(told.text(b" "), cases::first(out, len));
             return same(back, out, length, fixed, sizes);
         }
@@ -220,21 +220,21 @@ fn rewritten(rt: &impl Print, name: &[u8], len: u32) -> io::Result<()> {
 
 fn rewrite(line: Line, s: &[u8]) -> Line {
     match segment::read(s) {
-        SegmentRead::Accepted(segment) => {
+        Ok(segment) => {
             let mut out = [FILL; 36];
             let sizes = [size_at(s, 0), size_at(s, 1)];
             let answer = segment::write(&mut out, segment.head, &sizes);
             compared(words::written(line, answer), &out, s)
         }
-        SegmentRead::Refused(refusal) => words::refused(line, refusal),
+        Err(refusal) => words::refused(line, refusal),
     }
 }
 
 fn size_at(s: &[u8], index: usize) -> u32 {
     match segment::size(s, index) {
-        SizeRead::Size(bytes) => bytes,
-        SizeRead::None => 0,
-        SizeRead::Refused(_) => 0,
+        Ok(Some(bytes)) => bytes,
+        Ok(None) => 0,
+        Err(_) => 0,
     }
 }
 

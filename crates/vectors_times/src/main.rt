@@ -132,17 +132,17 @@ fn identifier(rt: &impl Print, name: &[u8], at: Gkid) -> io::Result<()> {
 fn start(rt: &impl Print, name: &[u8], l0: u32, l1: u32, l2: u32) -> io::Result<()> {
     let line = Line::new().text(name);
     match gkid(l0, l1, l2).start() {
-        Start::At(time) => print(rt, line.number(time.0)),
-        Start::Refused(refusal) => print(rt, words::refused(line, refusal)),
+        Ok(time) => print(rt, line.number(time.0)),
+        Err(refusal) => print(rt, words::refused(line, refusal)),
     }
 }
 
 fn older(rt: &impl Print, name: &[u8], l0: u32, l1: u32, l2: u32) -> io::Result<()> {
     let line = Line::new().text(name);
     match gkid(l0, l1, l2).older() {
-        Older::Is(i) => print(rt, words::identifier(line, i)),
-        Older::None => print(rt, line.text(b"NONE")),
-        Older::Refused(refusal) => print(rt, words::refused(line, refusal)),
+        Ok(Some(i)) => print(rt, words::identifier(line, i)),
+        Ok(None) => print(rt, line.text(b"NONE")),
+        Err(refusal) => print(rt, words::refused(line, refusal)),
     }
 }
 

@@ -1,10 +1,8 @@
 -- Document 01, "Bench cases": the words for answers, in ASCII, as pieces of a line.
-use Rattle.std.specs.Prelude.{ℕ, List, [], ◌∷◌}
+use Rattle.std.specs.Prelude.{ℕ, List, [], ◌∷◌, Result, Ok, Err}
 use Rattle.refusal.specs.declared.Refusal.{Refusal}
 use Rattle.refusal.specs.Number.{number_of}
 use Rattle.wire.specs.declared.Span.{Span}
-use Rattle.records.specs.declared.Written.{Written}
-use Rattle.records.specs.declared.Written.TheVariants.{Length, Refused}
 use Rattle.gkid.specs.declared.Gkid.{Gkid}
 use Rattle.keys.specs.declared.Form.{Form}
 use Rattle.keys.specs.declared.Form.TheVariants.{Keyless, L1Only, L2Only, Both, Public}
@@ -31,6 +29,6 @@ unfoldable pub span_words : Span → List (List ℕ)
 span_words span = decimal_of span.at ∷ space ∷ decimal_of span.len ∷ []
 
 -- WRITTEN and the record's length, or the refusal
-unfoldable pub written_words : Written → List (List ℕ)
-written_words (Length len) = (87 ∷ 82 ∷ 73 ∷ 84 ∷ 84 ∷ 69 ∷ 78 ∷ 32 ∷ []) ∷ decimal_of len ∷ []
-written_words (Refused r) = refused_words r
+unfoldable pub written_words : Result ℕ Refusal → List (List ℕ)
+written_words (Ok len) = (87 ∷ 82 ∷ 73 ∷ 84 ∷ 84 ∷ 69 ∷ 78 ∷ 32 ∷ []) ∷ decimal_of len ∷ []
+written_words (Err r) = refused_words r

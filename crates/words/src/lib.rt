@@ -83,7 +83,7 @@ pub fn written(line: Line, answer: Written) -> Line
     ensures { text_of result ≡ laid (text_of line) (written_words answer) }
 {
     match answer {
-        Written::Length(len) => line.text(b"WRITTEN ").number(len as u64),
-        Written::Refused(refusal) => refused(line, refusal),
+        Ok(len) => line.text(b"WRITTEN ").number(len as u64),
+        Err(refusal) => refused(line, refusal),
     }
 }

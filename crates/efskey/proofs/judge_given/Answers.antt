@@ -18,16 +18,16 @@ returns-then-certificate-eq0 c =
     let within : efs_key_length c.args.sid.now c.args.certificate.now ≤ 65535 = omega arith in
     sym (write_checks_lem _ _ ∙ rw (le-ltb 65535 _ (within), eq-eqb _ _ c.if-certificate-eq0.true))
 
-pub returns-in-Holds : goal.returns-in-Holds
+pub returns-in-Some : goal.returns-in-Some
 unfolding first_of
-returns-in-Holds c =
+returns-in-Some c =
     let said : (Says (offset_for (length c.args.sid.now)) c.args.sid.now c.of.result) = rw (c.of.ensures, c.offset_for.ensures) (area_says _ _) in
     let within : efs_key_length c.args.sid.now c.args.certificate.now ≤ 65535 = omega arith in
-    sym (write_checks_lem _ _ ∙ rw (le-ltb 65535 _ (within), ne_eqb _ _ c.if-certificate-eq0.false, (rw c.in-Holds.is at (said)).0))
+    sym (write_checks_lem _ _ ∙ rw (le-ltb 65535 _ (within), ne_eqb _ _ c.if-certificate-eq0.false, (rw c.in-Some.is at (said)).0))
 
-pub returns-in-Malformed : goal.returns-in-Malformed
+pub returns-in-None : goal.returns-in-None
 unfolding first_of
-returns-in-Malformed c =
+returns-in-None c =
     let said : (Says (offset_for (length c.args.sid.now)) c.args.sid.now c.of.result) = rw (c.of.ensures, c.offset_for.ensures) (area_says _ _) in
     let within : efs_key_length c.args.sid.now c.args.certificate.now ≤ 65535 = omega arith in
-    sym (write_checks_lem _ _ ∙ rw (le-ltb 65535 _ (within), ne_eqb _ _ c.if-certificate-eq0.false, rw c.in-Malformed.is at (said)))
+    sym (write_checks_lem _ _ ∙ rw (le-ltb 65535 _ (within), ne_eqb _ _ c.if-certificate-eq0.false, rw c.in-None.is at (said)))

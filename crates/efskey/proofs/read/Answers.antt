@@ -8,20 +8,20 @@ use Rattle.efskey.proofs.Hints.{Says, area_says}
 use Rattle.efskey.proofs.Reading.{efskey_judged}
 use Rattle.efskey.proofs.read.Goals as goal
 
-pub returns-in-Refused : goal.returns-in-Refused
+pub returns-in-Err : goal.returns-in-Err
 unfolding efs_key_checks unless_refused
-returns-in-Refused c =
-    sym (efskey_judged _ (sym c.in-Refused.is ∙ stops (head_checks _) _ c.judge_head.ensures c.in-Refused.is) refl)
+returns-in-Err c =
+    sym (efskey_judged _ (sym c.in-Err.is ∙ stops (head_checks _) _ c.judge_head.ensures c.in-Err.is) refl)
 
-pub returns-in-Holds : goal.returns-in-Holds
+pub returns-in-Some : goal.returns-in-Some
 unfolding efs_key_checks unless_refused
-returns-in-Holds c =
+returns-in-Some c =
     let said : (Says (sid_offset c.args.s.now) (sid_area c.args.s.now) c.of.result) = rw (c.of.ensures, c.le32_at.ensures, c.area_in.ensures) (area_says _ _) in
-    let held = rw c.in-Holds.is at (said) in
+    let held = rw c.in-Some.is at (said) in
     sym (efskey_judged _ (follows (head_checks _) _ c.judge_head.ensures c.in_default.is (sym (pass_accepted _ (held.0, tt)))) (c.shown.ensures ∙ ap (shown_with _) held.1))
 
-pub returns-in-Malformed : goal.returns-in-Malformed
+pub returns-in-None : goal.returns-in-None
 unfolding efs_key_checks unless_refused
-returns-in-Malformed c =
+returns-in-None c =
     let said : (Says (sid_offset c.args.s.now) (sid_area c.args.s.now) c.of.result) = rw (c.of.ensures, c.le32_at.ensures, c.area_in.ensures) (area_says _ _) in
-    sym (efskey_judged _ (follows (head_checks _) _ c.judge_head.ensures c.in_default.is (sym (first_here _ _ [] (rw c.in-Malformed.is at (said))))) refl)
+    sym (efskey_judged _ (follows (head_checks _) _ c.judge_head.ensures c.in_default.is (sym (first_here _ _ [] (rw c.in-None.is at (said))))) refl)

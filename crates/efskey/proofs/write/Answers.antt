@@ -6,9 +6,9 @@ use Rattle.efskey.specs.Writing.{efs_key_length}
 use Rattle.efskey.proofs.Writing.{within_limit}
 use Rattle.efskey.proofs.write.Goals as goal
 
-pub returns-in-Refused : goal.returns-in-Refused
+pub returns-in-Err : goal.returns-in-Err
 unfolding output_of
-returns-in-Refused c = record { answer = refuses _ _ c.judge_given.ensures c.in-Refused.is; output = refl }
+returns-in-Err c = record { answer = refuses _ _ c.judge_given.ensures c.in-Err.is; output = refl }
 
 -- what was judged accepted is within the limit
 pub overflow_add-len-2 : goal.overflow_add-len-2

@@ -4,10 +4,10 @@ use Rattle.refusal.proofs.Chains.{stops, follows}
 use Rattle.envelope.specs.Reading.{head_checks, layout_checks, envelope_checks}
 use Rattle.envelope.proofs.judge.Goals as goal
 
-pub returns-in-Accepted : goal.returns-in-Accepted
+pub returns-in-Ok : goal.returns-in-Ok
 unfolding envelope_checks
-returns-in-Accepted c = follows (head_checks _) (layout_checks _) c.judge_head.ensures c.in-Accepted.is c.judge_layout.ensures
+returns-in-Ok c = follows (head_checks _) (layout_checks _) c.judge_head.ensures c.in-Ok.is c.judge_layout.ensures
 
-pub returns-in-Refused : goal.returns-in-Refused
+pub returns-in-Err : goal.returns-in-Err
 unfolding envelope_checks
-returns-in-Refused c = sym c.in-Refused.is ∙ stops (head_checks _) (layout_checks _) c.judge_head.ensures c.in-Refused.is
+returns-in-Err c = sym c.in-Err.is ∙ stops (head_checks _) (layout_checks _) c.judge_head.ensures c.in-Err.is

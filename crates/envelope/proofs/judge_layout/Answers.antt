@@ -15,14 +15,14 @@ unfolding layout_checks first_of
 returns-then-end_of-s c =
     rw (← c.head_of-head.ensures, sym c.index_above_31.ensures ∙ c.if-index_above_31.false, ← c.lengths_of-n.ensures, ← c.end_of.ensures, ne_eqb _ _ c.if-end_of-s.true)
 
-pub returns-in-Accepted : goal.returns-in-Accepted
+pub returns-in-Ok : goal.returns-in-Ok
 unfolding unless_refused
-returns-in-Accepted c =
-    rw c.in-Accepted.is at (layout_judged _ c.head_of-head.ensures c.lengths_of-n.ensures c.bodies_of.ensures
+returns-in-Ok c =
+    rw c.in-Ok.is at (layout_judged _ c.head_of-head.ensures c.lengths_of-n.ensures c.bodies_of.ensures
     (sym c.index_above_31.ensures ∙ c.if-index_above_31.false) (sym c.end_of.ensures ∙ c.if-end_of-s.false) c.judge_texts.ensures c.judge_keys.ensures)
 
-pub returns-in-Refused : goal.returns-in-Refused
+pub returns-in-Err : goal.returns-in-Err
 unfolding unless_refused
-returns-in-Refused c =
-    rw c.in-Refused.is at (layout_judged _ c.head_of-head.ensures c.lengths_of-n.ensures c.bodies_of.ensures
+returns-in-Err c =
+    rw c.in-Err.is at (layout_judged _ c.head_of-head.ensures c.lengths_of-n.ensures c.bodies_of.ensures
     (sym c.index_above_31.ensures ∙ c.if-index_above_31.false) (sym c.end_of.ensures ∙ c.if-end_of-s.false) c.judge_texts.ensures refl)

@@ -5,20 +5,20 @@ use Rattle.refusal.proofs.Chains.{first_append}
 use Rattle.envelope.specs.Reading.{four_texts}
 use Rattle.envelope.proofs.judge_texts.Goals as goal
 
-pub returns-in-Refused : goal.returns-in-Refused
+pub returns-in-Err : goal.returns-in-Err
 unfolding four_texts unless_refused
-returns-in-Refused c =
-    rw (first_append, first_append, first_append, ← c.part.ensures.bytes, sym c.judge.ensures ∙ c.in-Refused.is)
+returns-in-Err c =
+    rw (first_append, first_append, first_append, ← c.part.ensures.bytes, sym c.judge.ensures ∙ c.in-Err.is)
 
-pub returns-in-Refused-judge : goal.returns-in-Refused-judge
+pub returns-in-Err-judge : goal.returns-in-Err-judge
 unfolding four_texts unless_refused
-returns-in-Refused-judge c =
-    rw (first_append, first_append, first_append, ← c.part.ensures.bytes, sym c.judge.ensures ∙ c.in_default.is, ← c.part-2.ensures.bytes, sym c.judge-2.ensures ∙ c.in-Refused-judge.is)
+returns-in-Err-judge c =
+    rw (first_append, first_append, first_append, ← c.part.ensures.bytes, sym c.judge.ensures ∙ c.in_default.is, ← c.part-2.ensures.bytes, sym c.judge-2.ensures ∙ c.in-Err-judge.is)
 
-pub returns-in-Refused-judge-2 : goal.returns-in-Refused-judge-2
+pub returns-in-Err-judge-2 : goal.returns-in-Err-judge-2
 unfolding four_texts unless_refused
-returns-in-Refused-judge-2 c =
-    rw (first_append, first_append, first_append, ← c.part.ensures.bytes, sym c.judge.ensures ∙ c.in_default.is, ← c.part-2.ensures.bytes, sym c.judge-2.ensures ∙ c.in_default-judge.is, ← c.part-3.ensures.bytes, sym c.judge-3.ensures ∙ c.in-Refused-judge-2.is)
+returns-in-Err-judge-2 c =
+    rw (first_append, first_append, first_append, ← c.part.ensures.bytes, sym c.judge.ensures ∙ c.in_default.is, ← c.part-2.ensures.bytes, sym c.judge-2.ensures ∙ c.in_default-judge.is, ← c.part-3.ensures.bytes, sym c.judge-3.ensures ∙ c.in-Err-judge-2.is)
 
 pub returns : goal.returns
 unfolding four_texts unless_refused

@@ -6,10 +6,10 @@ use Rattle.envelope.specs.Writing.{given, envelope_length}
 use Rattle.envelope.proofs.Writing.{within_limit}
 use Rattle.envelope.proofs.write.Goals as goal
 
-pub returns-in-Refused : goal.returns-in-Refused
+pub returns-in-Err : goal.returns-in-Err
 unfolding output_of
-returns-in-Refused c =
-    record { answer = refuses _ _ c.judge_given.ensures c.in-Refused.is; output = refl }
+returns-in-Err c =
+    record { answer = refuses _ _ c.judge_given.ensures c.in-Err.is; output = refl }
 
 pub overflow_add-len-2 : goal.overflow_add-len-2
 overflow_add-len-2 c =

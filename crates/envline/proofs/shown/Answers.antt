@@ -3,10 +3,10 @@ use Rattle.lemmas.proofs.Basics.{sym, ◌∙◌}
 use Rattle.envline.specs.Line.{line_words}
 use Rattle.envline.proofs.shown.Goals as goal
 
-pub returns-in-Accepted : goal.returns-in-Accepted
+pub returns-in-Ok : goal.returns-in-Ok
 unfolding line_words
-returns-in-Accepted c = rw (sym c.read.ensures ∙ c.in-Accepted.is) c.accepted.ensures
+returns-in-Ok c = rw (sym c.read.ensures ∙ c.in-Ok.is) c.accepted.ensures
 
-pub returns-in-Refused : goal.returns-in-Refused
+pub returns-in-Err : goal.returns-in-Err
 unfolding line_words
-returns-in-Refused c = rw (sym c.read.ensures ∙ c.in-Refused.is) c.refused.ensures
+returns-in-Err c = rw (sym c.read.ensures ∙ c.in-Err.is) c.refused.ensures

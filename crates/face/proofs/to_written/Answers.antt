@@ -3,10 +3,10 @@ use Rattle.records.specs.Writing.{written_number, written_length}
 use Rattle.face.specs.Shapes.{written_answer}
 use Rattle.face.proofs.to_written.Goals as goal
 
-pub returns-in-Length : goal.returns-in-Length
+pub returns-in-Ok : goal.returns-in-Ok
 unfolding written_answer written_number written_length
-returns-in-Length c = rw c.in-Length.is
+returns-in-Ok c = rw c.in-Ok.is
 
-pub returns-in-Refused : goal.returns-in-Refused
+pub returns-in-Err : goal.returns-in-Err
 unfolding written_answer written_number written_length
-returns-in-Refused c = rw (c.in-Refused.is, c.number.ensures)
+returns-in-Err c = rw (c.in-Err.is, c.number.ensures)

@@ -12,6 +12,6 @@ pub returns-in-Create : goal.returns-in-Create
 unfolding decision_answer grant_code answer_number answer_at answer_form answer_row
 returns-in-Create c = rw (c.in-Create.is, c.to_identifier-in-Create.ensures, c.form_code-in-Create.ensures)
 
-pub returns-in-Refused : goal.returns-in-Refused
+pub returns-in-Err : goal.returns-in-Err
 unfolding decision_answer grant_code answer_number answer_at answer_form answer_row form_code
-returns-in-Refused c = rw (c.in-Refused.is, c.number.ensures)
+returns-in-Err c = rw (c.in-Err.is, c.number.ensures)

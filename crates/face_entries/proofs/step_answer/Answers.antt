@@ -11,6 +11,6 @@ pub returns-in-End : goal.returns-in-End
 unfolding step_answer step_number found_code step_index step_algorithm step_found
 returns-in-End c = rw c.in-End.is c.no_entry.ensures
 
-pub returns-in-Refused : goal.returns-in-Refused
+pub returns-in-Err : goal.returns-in-Err
 unfolding step_answer step_number found_code step_index step_algorithm step_found
-returns-in-Refused c = rw (c.in-Refused.is, c.no_entry-in-Refused.ensures, c.number.ensures)
+returns-in-Err c = rw (c.in-Err.is, c.no_entry-in-Err.ensures, c.number.ensures)

@@ -11,6 +11,6 @@ pub returns-in-None : goal.returns-in-None
 unfolding size_answer size_number size_found size_value
 returns-in-None c = rw c.in-None.is
 
-pub returns-in-Refused : goal.returns-in-Refused
+pub returns-in-Err : goal.returns-in-Err
 unfolding size_answer size_number size_found size_value
-returns-in-Refused c = rw (c.in-Refused.is, c.number.ensures)
+returns-in-Err c = rw (c.in-Err.is, c.number.ensures)

@@ -3,10 +3,10 @@ use Rattle.gkid.specs.Start.{start_number, start_shown}
 use Rattle.face_times.specs.Times.{start_answer}
 use Rattle.face_times.proofs.start_answer.Goals as goal
 
-pub returns-in-At : goal.returns-in-At
+pub returns-in-Ok : goal.returns-in-Ok
 unfolding start_answer start_number start_shown
-returns-in-At c = rw c.in-At.is
+returns-in-Ok c = rw c.in-Ok.is
 
-pub returns-in-Refused : goal.returns-in-Refused
+pub returns-in-Err : goal.returns-in-Err
 unfolding start_answer start_number start_shown
-returns-in-Refused c = rw (c.in-Refused.is, c.number.ensures)
+returns-in-Err c = rw (c.in-Err.is, c.number.ensures)

@@ -2,9 +2,9 @@
 use Rattle.face_traces.specs.Totals.{merge_answer}
 use Rattle.face_traces.proofs.merge_answer.Goals as goal
 
-pub returns-in-Total : goal.returns-in-Total
+pub returns-in-Some : goal.returns-in-Some
 unfolding merge_answer
-returns-in-Total c = rw (c.in-Total.is, c.to_tally.ensures)
+returns-in-Some c = rw (c.in-Some.is, c.to_tally.ensures)
 
 pub returns-in-Full : goal.returns-in-Full
 unfolding merge_answer

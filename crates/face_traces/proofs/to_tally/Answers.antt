@@ -6,6 +6,6 @@ pub returns-in-None : goal.returns-in-None
 unfolding tally_shown clocks_code first_clock last_clock
 returns-in-None c = rw c.in-None.is c.numbers.ensures
 
-pub returns-in-Between : goal.returns-in-Between
+pub returns-in-Some : goal.returns-in-Some
 unfolding tally_shown clocks_code first_clock last_clock
-returns-in-Between c = rw c.in-Between.is c.numbers-in-Between.ensures
+returns-in-Some c = rw c.in-Some.is c.numbers-in-Some.ensures

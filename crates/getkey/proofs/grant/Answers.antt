@@ -12,7 +12,7 @@ unfolding granting with_row
 returns-in-None c =
     rw (← c.granted_at-at.ensures, ← c.form-form.ensures, ← c.row_wanted.ensures, ← c.choose.ensures.answer, c.in-None.is) c.without_row.ensures
 
-pub returns-in-Refused : goal.returns-in-Refused
+pub returns-in-Err : goal.returns-in-Err
 unfolding granting with_row
-returns-in-Refused c =
-    rw (← c.granted_at-at.ensures, ← c.form-form.ensures, ← c.row_wanted.ensures, ← c.choose.ensures.answer, c.in-Refused.is)
+returns-in-Err c =
+    rw (← c.granted_at-at.ensures, ← c.form-form.ensures, ← c.row_wanted.ensures, ← c.choose.ensures.answer, c.in-Err.is)

@@ -9,12 +9,12 @@ returns-in_default c = rw c.in_default.is
 
 pub returns-in-None : goal.returns-in-None
 unfolding granted_at
-returns-in-None c = rw (c.in-Named.is, c.in-None.is)
+returns-in-None c = rw (c.in-Some.is, c.in-None.is)
 
 pub returns-then-named-present : goal.returns-then-named-present
 unfolding granted_at
-returns-then-named-present c = rw (c.in-Named.is, c.in-Given.is) (search lt-ltb)
+returns-then-named-present c = rw (c.in-Some.is, c.in-Some.is) (search lt-ltb)
 
 pub returns-else-named-present : goal.returns-else-named-present
 unfolding granted_at
-returns-else-named-present c = rw (c.in-Named.is, c.in-Given.is) (search le-ltb)
+returns-else-named-present c = rw (c.in-Some.is, c.in-Some.is) (search le-ltb)

@@ -3,16 +3,16 @@ use Rattle.getkey.specs.Deciding.{wanted_of}
 use Rattle.getkey.proofs.row_wanted.Goals as goal
 
 pub start_of-requires : goal.start_of-requires
-start_of-requires c = rw c.in-Named.is at c.requires
+start_of-requires c = rw c.in-Some.is at c.requires
 
-pub returns-in-Given : goal.returns-in-Given
+pub returns-in-Some : goal.returns-in-Some
 unfolding wanted_of
-returns-in-Given c = rw c.in-Given.is
+returns-in-Some c = rw c.in-Some.is
 
-pub returns-in-Latest : goal.returns-in-Latest
+pub returns-in-None : goal.returns-in-None
 unfolding wanted_of
-returns-in-Latest c = rw (c.in-None.is, c.in-Latest.is)
+returns-in-None c = rw (c.in-None.is, c.in-None.is)
 
-pub returns-in-Named : goal.returns-in-Named
+pub returns-in-Some : goal.returns-in-Some
 unfolding wanted_of
-returns-in-Named c = rw (c.in-None.is, c.in-Named.is, c.start_of.ensures)
+returns-in-Some c = rw (c.in-None.is, c.in-Some.is, c.start_of.ensures)

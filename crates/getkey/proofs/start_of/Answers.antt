@@ -8,8 +8,8 @@ returns-in-At c =
     let told = sym c.in-At.is ∙ c.start.ensures ∙ start_is c.args.at c.requires.0 c.requires.1 in
     cc
 
-pub returns-in-Refused : goal.returns-in-Refused
-returns-in-Refused c =
-    let told = sym c.in-Refused.is ∙ c.start.ensures ∙ start_is c.args.at c.requires.0 c.requires.1 in
+pub returns-in-Err : goal.returns-in-Err
+returns-in-Err c =
+    let told = sym c.in-Err.is ∙ c.start.ensures ∙ start_is c.args.at c.requires.0 c.requires.1 in
     let never : ◌≡◌ {A = ℕ} 0 1 = cc in
     absurd (omega arith)

@@ -2,9 +2,9 @@
 use Rattle.getkey.specs.Deciding.{without_row}
 use Rattle.getkey.proofs.without_row.Goals as goal
 
-pub returns-in-Latest : goal.returns-in-Latest
+pub returns-in-None : goal.returns-in-None
 unfolding without_row
-returns-in-Latest c = rw (c.in-None.is, c.in-Latest.is)
+returns-in-None c = rw (c.in-None.is, c.in-None.is)
 
 pub returns-in_default-asked : goal.returns-in_default-asked
 unfolding without_row

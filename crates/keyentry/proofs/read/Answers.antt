@@ -4,10 +4,10 @@ use Rattle.refusal.specs.Chain.{unless_refused}
 use Rattle.keyentry.proofs.Reading.{entry_judged}
 use Rattle.keyentry.proofs.read.Goals as goal
 
-pub returns-in-Accepted : goal.returns-in-Accepted
+pub returns-in-Ok : goal.returns-in-Ok
 unfolding unless_refused
-returns-in-Accepted c = sym (entry_judged _ (sym c.in-Accepted.is ∙ c.judge.ensures) c.shown.ensures)
+returns-in-Ok c = sym (entry_judged _ (sym c.in-Ok.is ∙ c.judge.ensures) c.shown.ensures)
 
-pub returns-in-Refused : goal.returns-in-Refused
+pub returns-in-Err : goal.returns-in-Err
 unfolding unless_refused
-returns-in-Refused c = sym (entry_judged _ (sym c.in-Refused.is ∙ c.judge.ensures) refl)
+returns-in-Err c = sym (entry_judged _ (sym c.in-Err.is ∙ c.judge.ensures) refl)

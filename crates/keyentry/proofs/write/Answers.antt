@@ -6,10 +6,10 @@ use Rattle.keyentry.specs.Writing.{entry_length}
 use Rattle.keyentry.proofs.Writing.{within_limit}
 use Rattle.keyentry.proofs.write.Goals as goal
 
-pub returns-in-Refused : goal.returns-in-Refused
+pub returns-in-Err : goal.returns-in-Err
 unfolding output_of
-returns-in-Refused c =
-    record { answer = refuses _ _ (c.judge_given.ensures _) c.in-Refused.is; output = refl }
+returns-in-Err c =
+    record { answer = refuses _ _ (c.judge_given.ensures _) c.in-Err.is; output = refl }
 
 -- what was judged accepted is within the limit
 pub overflow_add-len-2 : goal.overflow_add-len-2

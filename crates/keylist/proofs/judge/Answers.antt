@@ -23,17 +23,17 @@ loop-index-smaller c = omega (arith, c.le32_at-count.ensures)
 -- past a record that is accepted
 pub overflow_add-at : goal.overflow_add-at
 overflow_add-at c =
-    let turned = turn_on c.args.list.now c.loop-index.at c.loop-index.index c.in-Record.span (omega (arith, c.le32_at-count.ensures)) (sym c.in-Record.ensures) in
+    let turned = turn_on c.args.list.now c.loop-index.at c.loop-index.index c.in-Ok.span (omega (arith, c.le32_at-count.ensures)) (sym c.in-Ok.ensures) in
     omega (arith, ap (λ x. x.len) turned.0.is, turned.0.low, turned.0.high)
 
 pub loop-index-preserved : goal.loop-index-preserved
 loop-index-preserved c =
-    let turned = turn_on c.args.list.now c.loop-index.at c.loop-index.index c.in-Record.span (omega (arith, c.le32_at-count.ensures)) (sym c.in-Record.ensures) in
+    let turned = turn_on c.args.list.now c.loop-index.at c.loop-index.index c.in-Ok.span (omega (arith, c.le32_at-count.ensures)) (sym c.in-Ok.ensures) in
     (omega (arith, c.le32_at-count.ensures), sym turned.1 ∙ c.loop-index.invariant.1)
 
-pub returns-in-Refused : goal.returns-in-Refused
-returns-in-Refused c =
-    sym (turn_refused _ _ _ _ (omega (arith, c.le32_at-count.ensures)) (sym c.in-Refused.ensures)) ∙ c.loop-index.invariant.1
+pub returns-in-Err : goal.returns-in-Err
+returns-in-Err c =
+    sym (turn_refused _ _ _ _ (omega (arith, c.le32_at-count.ensures)) (sym c.in-Err.ensures)) ∙ c.loop-index.invariant.1
 
 pub returns-then-at-list : goal.returns-then-at-list
 unfolding entries_from

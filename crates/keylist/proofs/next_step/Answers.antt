@@ -22,27 +22,27 @@ returns-then-le32_at-place c =
 -- where the entry's record lies, and that it is looked for
 pub overflow_add-result : goal.overflow_add-result
 overflow_add-result c =
-    let found : Lies c.args.list.now c.args.place.at c.in-Record.span = lies _ _ _ (sym c.in-Record.ensures.answer) in
+    let found : Lies c.args.list.now c.args.place.at c.in-Ok.span = lies _ _ _ (sym c.in-Ok.ensures.answer) in
     omega (arith, ap (λ x. x.len) found.is, found.high)
 
-pub returns-in-Refused : goal.returns-in-Refused
-returns-in-Refused c =
+pub returns-in-Err : goal.returns-in-Err
+returns-in-Err c =
     let wanted : step_of c.args.list.now c.args.place ≡ entry_step c.args.list.now c.args.place =
     step_entry _ _ c.if-list-gt-LIMIT.false c.if-list-lt4.false (omega (arith, c.le32_at.ensures)) in
-    c.stay-in-Refused.ensures
-    ∙ sym (ap (arrived c.args.list.now c.args.place) wanted ∙ entered_refused c.args.list.now c.args.place _ (place_barred _ _ _ (sym c.in-Refused.ensures.answer)))
+    c.stay-in-Err.ensures
+    ∙ sym (ap (arrived c.args.list.now c.args.place) wanted ∙ entered_refused c.args.list.now c.args.place _ (place_barred _ _ _ (sym c.in-Err.ensures.answer)))
 
-pub returns-in-Accepted : goal.returns-in-Accepted
-returns-in-Accepted c =
-    let found : Lies c.args.list.now c.args.place.at c.in-Record.span = lies _ _ _ (sym c.in-Record.ensures.answer) in
+pub returns-in-Ok : goal.returns-in-Ok
+returns-in-Ok c =
+    let found : Lies c.args.list.now c.args.place.at c.in-Ok.span = lies _ _ _ (sym c.in-Ok.ensures.answer) in
     let wanted : step_of c.args.list.now c.args.place ≡ entry_step c.args.list.now c.args.place =
     step_entry _ _ c.if-list-gt-LIMIT.false c.if-list-lt4.false (omega (arith, c.le32_at.ensures)) in
-    sym (ap (arrived c.args.list.now c.args.place) wanted ∙ entered_accepted c.args.list.now c.args.place _ found _ (ap entry_of (sym c.part.ensures.bytes) ∙ sym c.in-Accepted.ensures))
+    sym (ap (arrived c.args.list.now c.args.place) wanted ∙ entered_accepted c.args.list.now c.args.place _ found _ (ap entry_of (sym c.part.ensures.bytes) ∙ sym c.in-Ok.ensures))
 
-pub returns-in-Refused-read : goal.returns-in-Refused-read
-returns-in-Refused-read c =
-    let found : Lies c.args.list.now c.args.place.at c.in-Record.span = lies _ _ _ (sym c.in-Record.ensures.answer) in
+pub returns-in-Err-read : goal.returns-in-Err-read
+returns-in-Err-read c =
+    let found : Lies c.args.list.now c.args.place.at c.in-Ok.span = lies _ _ _ (sym c.in-Ok.ensures.answer) in
     let wanted : step_of c.args.list.now c.args.place ≡ entry_step c.args.list.now c.args.place =
     step_entry _ _ c.if-list-gt-LIMIT.false c.if-list-lt4.false (omega (arith, c.le32_at.ensures)) in
-    c.stay-in-Refused-read.ensures
-    ∙ sym (ap (arrived c.args.list.now c.args.place) wanted ∙ entered_refused c.args.list.now c.args.place _ (place_refused _ _ _ found _ (ap entry_of (sym c.part.ensures.bytes) ∙ sym c.in-Refused-read.ensures)))
+    c.stay-in-Err-read.ensures
+    ∙ sym (ap (arrived c.args.list.now c.args.place) wanted ∙ entered_refused c.args.list.now c.args.place _ (place_refused _ _ _ found _ (ap entry_of (sym c.part.ensures.bytes) ∙ sym c.in-Err-read.ensures)))

@@ -30,10 +30,10 @@ returns-in-End c =
     let told = handed_out c.args.list.now _ _ _ _ c.args.list.ref_ptr.1 placed (span_inside _ _ _) (c.part-in-End.ensures.bytes, c.part-in-End.ensures.place) in
     record { bytes = told.0; place = told.1 }
 
-pub returns-in-Refused : goal.returns-in-Refused
+pub returns-in-Err : goal.returns-in-Err
 unfolding arrived step_span
-returns-in-Refused c =
+returns-in-Err c =
     let placed : ◌≡◌ {A = Span} (record { at = 0; len = 0 }) (list_span c.args.list.now c.args.place c.args.which) =
-    rw (sym (ap (λ a. a.step) c.next_step-step.ensures) ∙ c.in-Refused.is) in
-    let told = handed_out c.args.list.now _ _ _ _ c.args.list.ref_ptr.1 placed (span_inside _ _ _) (c.part-in-Refused.ensures.bytes, c.part-in-Refused.ensures.place) in
+    rw (sym (ap (λ a. a.step) c.next_step-step.ensures) ∙ c.in-Err.is) in
+    let told = handed_out c.args.list.now _ _ _ _ c.args.list.ref_ptr.1 placed (span_inside _ _ _) (c.part-in-Err.ensures.bytes, c.part-in-Err.ensures.place) in
     record { bytes = told.0; place = told.1 }

@@ -2,10 +2,10 @@
 use Rattle.report.specs.Records.{answered}
 use Rattle.report.proofs.answer_of.Goals as goal
 
-pub returns-in-Accepted : goal.returns-in-Accepted
+pub returns-in-Ok : goal.returns-in-Ok
 unfolding answered
-returns-in-Accepted c = rw c.in-Accepted.is c.decide_by_verdict.ensures
+returns-in-Ok c = rw c.in-Ok.is c.decide_by_verdict.ensures
 
-pub returns-in-Refused : goal.returns-in-Refused
+pub returns-in-Err : goal.returns-in-Err
 unfolding answered
-returns-in-Refused c = rw c.in-Refused.is
+returns-in-Err c = rw c.in-Err.is

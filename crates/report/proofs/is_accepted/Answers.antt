@@ -12,6 +12,6 @@ pub returns-in-Create : goal.returns-in-Create
 unfolding answer_number
 returns-in-Create c = rw c.in-Create.is
 
-pub returns-in-Refused : goal.returns-in-Refused
+pub returns-in-Err : goal.returns-in-Err
 unfolding answer_number
-returns-in-Refused c = rw c.in-Refused.is (sym (ne_eqb _ 0 (number_not-zero _)))
+returns-in-Err c = rw c.in-Err.is (sym (ne_eqb _ 0 (number_not-zero _)))

@@ -12,6 +12,6 @@ pub returns-in-Create : goal.returns-in-Create
 unfolding put_all identifier_words answer_words
 returns-in-Create c = rw (c.in-Create.is, c.put_text.ensures, c.put_granted-granted-in-Create.ensures)
 
-pub returns-in-Refused : goal.returns-in-Refused
+pub returns-in-Err : goal.returns-in-Err
 unfolding answer_words
-returns-in-Refused c = rw c.in-Refused.is c.put_refused.ensures
+returns-in-Err c = rw c.in-Err.is c.put_refused.ensures

@@ -1,7 +1,7 @@
 -- `put_total`: 13, or the line put at the start.
 use Rattle.lemmas.proofs.Basics.{arith, ◌≡◌, refl, sym, ap, ◌∙◌, length, rules}
+use Rattle.std.specs.Prelude.{Ok}
 use Rattle.wire.specs.Parts.{onto}
-use Rattle.records.specs.declared.Written.TheVariants.{Length}
 use Rattle.records.specs.Writing.{output_of}
 use Rattle.records.proofs.Laws.{no_room, accepted_written}
 use Rattle.report.specs.Lines.{total_line, total_written}
@@ -20,4 +20,4 @@ unfolding output_of total_written
 returns c =
     let part-is : c.part-text.result.now ≡ total_line c.args.tally = c.part-text.ensures.bytes ∙ total_part _ _ _ (search rules) c.total_line-line.ensures in
     let size = ap length (part-is) in
-    record { answer = ap Length size ∙ sym (accepted_written (length (total_line c.args.tally)) _ (omega arith)); output = c.copy_into.ensures ∙ ap (λ t. onto t c.args.out.now) (part-is) }
+    record { answer = ap Ok size ∙ sym (accepted_written (length (total_line c.args.tally)) _ (omega arith)); output = c.copy_into.ensures ∙ ap (λ t. onto t c.args.out.now) (part-is) }

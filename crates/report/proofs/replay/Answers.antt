@@ -23,7 +23,7 @@ loop-left-preserved c =
     let cut = first_cut c.loop-left.left.now c.record_size-size.result c.record_size-size.ensures in
     rw cut.1
     (replaying_again c.loop-left.invariant (sym c.has_record.ensures ∙ c.loop-left-test.true) (omega (arith, length_out c.loop-left.invariant))
-    (ap (step_of _ _) (sym cut.0) ∙ sym c.step.ensures ∙ c.in-Line.is) c.put_line-written.ensures)
+    (ap (step_of _ _) (sym cut.0) ∙ sym c.step.ensures ∙ c.in-Some.is) c.put_line-written.ensures)
 
 pub returns-then-out-written-lt-LINE : goal.returns-then-out-written-lt-LINE
 returns-then-out-written-lt-LINE c =

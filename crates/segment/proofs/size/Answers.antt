@@ -5,9 +5,9 @@ use Rattle.segment.specs.Layout.{block_count, size_at}
 use Rattle.segment.specs.Reading.{size_of}
 use Rattle.segment.proofs.size.Goals as goal
 
-pub returns-in-Refused : goal.returns-in-Refused
+pub returns-in-Err : goal.returns-in-Err
 unfolding size_of unless_refused
-returns-in-Refused c = rw (← c.judge.ensures, c.in-Refused.is)
+returns-in-Err c = rw (← c.judge.ensures, c.in-Err.is)
 
 pub returns-then-le16_at-index : goal.returns-then-le16_at-index
 unfolding size_of unless_refused

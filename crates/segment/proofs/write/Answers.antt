@@ -4,10 +4,10 @@ use Rattle.records.specs.Writing.{output_of}
 use Rattle.records.proofs.Laws.{refuses, lacks_room, writes}
 use Rattle.segment.proofs.write.Goals as goal
 
-pub returns-in-Refused : goal.returns-in-Refused
+pub returns-in-Err : goal.returns-in-Err
 unfolding output_of
-returns-in-Refused c =
-    record { answer = refuses _ _ c.judge_given.ensures c.in-Refused.is; output = refl }
+returns-in-Err c =
+    record { answer = refuses _ _ c.judge_given.ensures c.in-Err.is; output = refl }
 
 pub returns-then-out-len : goal.returns-then-out-len
 unfolding output_of

@@ -3,14 +3,14 @@ use Rattle.lemmas.proofs.Basics.{sym, ◌∙◌}
 use Rattle.serving.specs.Choice.{prefer}
 use Rattle.serving.proofs.choose.Goals as goal
 
-pub returns-in-By : goal.returns-in-By
+pub returns-in-Some : goal.returns-in-Some
 unfolding prefer
-returns-in-By c = rw (sym c.served_by.ensures ∙ c.in-By.is)
+returns-in-Some c = rw (sym c.served_by.ensures ∙ c.in-Some.is)
 
-pub returns-in-By-served_by : goal.returns-in-By-served_by
+pub returns-in-Some-served_by : goal.returns-in-Some-served_by
 unfolding prefer
-returns-in-By-served_by c = rw (sym c.served_by.ensures ∙ c.in-No.is, sym c.served_by-in-No.ensures ∙ c.in-By-served_by.is)
+returns-in-Some-served_by c = rw (sym c.served_by.ensures ∙ c.in-None.is, sym c.served_by-in-None.ensures ∙ c.in-Some-served_by.is)
 
-pub returns-in-No-served_by : goal.returns-in-No-served_by
+pub returns-in-None-served_by : goal.returns-in-None-served_by
 unfolding prefer
-returns-in-No-served_by c = rw (sym c.served_by.ensures ∙ c.in-No.is, sym c.served_by-in-No.ensures ∙ c.in-No-served_by.is)
+returns-in-None-served_by c = rw (sym c.served_by.ensures ∙ c.in-None.is, sym c.served_by-in-None.ensures ∙ c.in-None-served_by.is)

@@ -5,12 +5,12 @@ use Rattle.serving.proofs.served_by.Goals as goal
 
 pub returns-then-is : goal.returns-then-is
 unfolding served_by
-returns-then-is c = rw (sym c.read.ensures ∙ c.in-Accepted.is, sym c.is.ensures ∙ c.if-is.true) c.key_for.ensures
+returns-then-is c = rw (sym c.read.ensures ∙ c.in-Ok.is, sym c.is.ensures ∙ c.if-is.true) c.key_for.ensures
 
 pub returns-else-is : goal.returns-else-is
 unfolding served_by
-returns-else-is c = rw (sym c.read.ensures ∙ c.in-Accepted.is, sym c.is.ensures ∙ c.if-is.false)
+returns-else-is c = rw (sym c.read.ensures ∙ c.in-Ok.is, sym c.is.ensures ∙ c.if-is.false)
 
-pub returns-in-Refused : goal.returns-in-Refused
+pub returns-in-Err : goal.returns-in-Err
 unfolding served_by
-returns-in-Refused c = rw (sym c.read.ensures ∙ c.in-Refused.is)
+returns-in-Err c = rw (sym c.read.ensures ∙ c.in-Err.is)

@@ -8,9 +8,9 @@ returns-in_default c = rw c.in_default.is
 
 pub returns-in_default-after : goal.returns-in_default-after
 unfolding joined_ends
-returns-in_default-after c = rw (c.in-Between.is, c.in_default-after.is)
+returns-in_default-after c = rw (c.in-Some.is, c.in_default-after.is)
 
 pub returns : goal.returns
 unfolding joined_ends
 returns c =
-    rw (c.in-Between.is, c.in-Between-after.is)
+    rw (c.in-Some.is, c.in-Some-after.is)

@@ -6,12 +6,12 @@ use Rattle.trace.proofs.read.Goals as goal
 
 pub shown-requires : goal.shown-requires
 unfolding unless_refused
-shown-requires c = accepted-whole _ (sym c.judge.ensures ∙ c.in-Accepted.is)
+shown-requires c = accepted-whole _ (sym c.judge.ensures ∙ c.in-Ok.is)
 
-pub returns-in-Accepted : goal.returns-in-Accepted
+pub returns-in-Ok : goal.returns-in-Ok
 unfolding unless_refused
-returns-in-Accepted c = sym (record_judged _ (sym c.in-Accepted.is ∙ c.judge.ensures) c.shown.ensures)
+returns-in-Ok c = sym (record_judged _ (sym c.in-Ok.is ∙ c.judge.ensures) c.shown.ensures)
 
-pub returns-in-Refused : goal.returns-in-Refused
+pub returns-in-Err : goal.returns-in-Err
 unfolding unless_refused
-returns-in-Refused c = sym (record_judged _ (sym c.in-Refused.is ∙ c.judge.ensures) refl)
+returns-in-Err c = sym (record_judged _ (sym c.in-Err.is ∙ c.judge.ensures) refl)

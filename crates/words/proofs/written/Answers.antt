@@ -3,10 +3,10 @@ use Rattle.line.specs.Text.{laid}
 use Rattle.words.specs.Words.{written_words}
 use Rattle.words.proofs.written.Goals as goal
 
-pub returns-in-Length : goal.returns-in-Length
+pub returns-in-Ok : goal.returns-in-Ok
 unfolding laid written_words
-returns-in-Length c = rw c.in-Length.is (rw (c.number.ensures, c.text.ensures))
+returns-in-Ok c = rw c.in-Ok.is (rw (c.number.ensures, c.text.ensures))
 
-pub returns-in-Refused : goal.returns-in-Refused
+pub returns-in-Err : goal.returns-in-Err
 unfolding written_words
-returns-in-Refused c = rw c.in-Refused.is c.refused.ensures
+returns-in-Err c = rw c.in-Err.is c.refused.ensures

@@ -4,12 +4,12 @@ use Rattle.efskey.proofs.EfsKeyRead.span.Goals as goal
 
 pub returns-in-Sid : goal.returns-in-Sid
 unfolding span_of
-returns-in-Sid c = rw (c.in-Accepted.is, c.in-Sid.is, c.span.ensures)
+returns-in-Sid c = rw (c.in-Ok.is, c.in-Sid.is, c.span.ensures)
 
 pub returns-in-Certificate : goal.returns-in-Certificate
 unfolding span_of
-returns-in-Certificate c = rw (c.in-Accepted.is, c.in-Certificate.is)
+returns-in-Certificate c = rw (c.in-Ok.is, c.in-Certificate.is)
 
-pub returns-in-Refused : goal.returns-in-Refused
+pub returns-in-Err : goal.returns-in-Err
 unfolding span_of
-returns-in-Refused c = rw c.in-Refused.is
+returns-in-Err c = rw c.in-Err.is

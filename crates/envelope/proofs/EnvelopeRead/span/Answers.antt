@@ -2,10 +2,10 @@
 use Rattle.envelope.specs.Reading.{span_of}
 use Rattle.envelope.proofs.EnvelopeRead.span.Goals as goal
 
-pub returns-in-Accepted : goal.returns-in-Accepted
+pub returns-in-Ok : goal.returns-in-Ok
 unfolding span_of
-returns-in-Accepted c = rw c.in-Accepted.is c.span.ensures
+returns-in-Ok c = rw c.in-Ok.is c.span.ensures
 
-pub returns-in-Refused : goal.returns-in-Refused
+pub returns-in-Err : goal.returns-in-Err
 unfolding span_of
-returns-in-Refused c = rw c.in-Refused.is
+returns-in-Err c = rw c.in-Err.is

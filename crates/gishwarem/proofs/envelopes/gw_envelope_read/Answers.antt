@@ -2,14 +2,14 @@
 use Rattle.envelope.proofs.Reading.{head_refused}
 use Rattle.gishwarem.proofs.envelopes.gw_envelope_read.Goals as goal
 
-pub returns-in-Refused : goal.returns-in-Refused
-returns-in-Refused c =
-    rw (c.envelope_refused.ensures, head_refused _ c.judge_head.ensures c.in-Refused.is)
+pub returns-in-Err : goal.returns-in-Err
+returns-in-Err c =
+    rw (c.envelope_refused.ensures, head_refused _ c.judge_head.ensures c.in-Err.is)
 
-pub returns-in-Accepted : goal.returns-in-Accepted
-returns-in-Accepted c =
-    rw (c.envelope_answer.ensures, ← c.read.ensures, c.in-Accepted.is)
+pub returns-in-Ok : goal.returns-in-Ok
+returns-in-Ok c =
+    rw (c.envelope_answer.ensures, ← c.read.ensures, c.in-Ok.is)
 
-pub returns-in-Refused-read : goal.returns-in-Refused-read
-returns-in-Refused-read c =
-    rw (c.envelope_refused-in-Refused-read.ensures, ← c.read.ensures, c.in-Refused-read.is)
+pub returns-in-Err-read : goal.returns-in-Err-read
+returns-in-Err-read c =
+    rw (c.envelope_refused-in-Err-read.ensures, ← c.read.ensures, c.in-Err-read.is)

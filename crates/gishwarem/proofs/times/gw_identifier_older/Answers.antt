@@ -12,6 +12,6 @@ pub returns-in-None : goal.returns-in-None
 returns-in-None c =
     rw (c.none_older.ensures, ← c.to_gkid.ensures, ← c.older.ensures, c.in-None.is)
 
-pub returns-in-Refused : goal.returns-in-Refused
-returns-in-Refused c =
-    rw (c.older_refused.ensures, ← c.to_gkid.ensures, ← c.older.ensures, c.in-Refused.is)
+pub returns-in-Err : goal.returns-in-Err
+returns-in-Err c =
+    rw (c.older_refused.ensures, ← c.to_gkid.ensures, ← c.older.ensures, c.in-Err.is)

@@ -4,12 +4,12 @@ use Rattle.keyentry.proofs.EntryRead.span.Goals as goal
 
 pub returns-in-Item : goal.returns-in-Item
 unfolding span_of
-returns-in-Item c = rw (c.in-Accepted.is, c.in-Item.is)
+returns-in-Item c = rw (c.in-Ok.is, c.in-Item.is)
 
 pub returns-in-Fek : goal.returns-in-Fek
 unfolding span_of
-returns-in-Fek c = rw (c.in-Accepted.is, c.in-Fek.is)
+returns-in-Fek c = rw (c.in-Ok.is, c.in-Fek.is)
 
-pub returns-in-Refused : goal.returns-in-Refused
+pub returns-in-Err : goal.returns-in-Err
 unfolding span_of
-returns-in-Refused c = rw c.in-Refused.is
+returns-in-Err c = rw c.in-Err.is

@@ -4,9 +4,9 @@ use Rattle.refusal.specs.Chain.{unless_refused}
 use Rattle.reach.specs.Reaches.{keys_reach}
 use Rattle.reach.proofs.Reach.of.Goals as goal
 
-pub returns-in-Refused : goal.returns-in-Refused
+pub returns-in-Err : goal.returns-in-Err
 unfolding keys_reach unless_refused
-returns-in-Refused c = rw (sym c.judge.ensures ∙ c.in-Refused.is) c.refused.ensures
+returns-in-Err c = rw (sym c.judge.ensures ∙ c.in-Err.is) c.refused.ensures
 
 pub returns : goal.returns
 unfolding keys_reach unless_refused
