@@ -13,7 +13,8 @@ pub struct Span {
     pub len: usize,
 }
 
-// The bytes of a span: those very bytes of s, or the empty part where any of it lies outside.
+// The bytes of a span: those very bytes of s, or the empty part where any of it lies outside. A range, as `place` has it: of what
+// `get` hands out it is not known where it lies.
 pub fn part(s: &[u8], span: Span) -> &[u8]
     ensures bytes { result.now ≡ part_of s.now span.at span.len }
     ensures place { (result.ref_ptr.0 ≡ s.entry.ref_ptr.0) × (result.ref_ptr.1 ≡ s.entry.ref_ptr.1 + start_of s.now span.at span.len) }
@@ -100,7 +101,8 @@ pub fn put_le64(dst: &mut [u8], x: u64)
     copy_into(dst, &x.to_le_bytes());
 }
 
-// Numbers put one after the other at the start of a lent part, each a little-endian u32.
+// Numbers put one after the other at the start of a lent part, each a little-endian u32. By their places: of what a loop over
+// `chunks_exact_mut` writes nothing is known.
 pub fn put_le32s(dst: &mut [u8], xs: &[u32])
     ensures { dst.new ≡ onto (le32_bytes xs.now) dst.old }
 {
