@@ -1,7 +1,7 @@
--- `to_written`: the answer is told.
+-- `WrittenAnswer::from`: the answer is told.
 use Rattle.records.specs.Writing.{written_number, written_length}
 use Rattle.face.specs.Shapes.{written_answer}
-use Rattle.face.proofs.to_written.Goals as goal
+use Rattle.face.proofs.WrittenAnswerFromResultUsizeRefusal.from.Goals as goal
 
 pub returns-in-Ok : goal.returns-in-Ok
 unfolding written_answer written_number written_length

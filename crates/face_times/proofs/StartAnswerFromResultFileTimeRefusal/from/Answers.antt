@@ -1,7 +1,7 @@
--- `start_answer`: the start is told.
+-- `StartAnswer::from`: the answer is told.
 use Rattle.gkid.specs.Start.{start_number, start_shown}
 use Rattle.face_times.specs.Times.{start_answer}
-use Rattle.face_times.proofs.start_answer.Goals as goal
+use Rattle.face_times.proofs.StartAnswerFromResultFileTimeRefusal.from.Goals as goal
 
 pub returns-in-Ok : goal.returns-in-Ok
 unfolding start_answer start_number start_shown
