@@ -28,7 +28,7 @@ pub record ReadsBack (s : List ℕ) (h : Head) (sizes : List ℕ) : Type 0 where
         length = segment_length sizes;
         blocks = length sizes;
         sizes = record { at = 28; len = 4 * length sizes };
-        larger = larger_than (2 ^ h.unit_shift) (length sizes) (λ k. get_or sizes k 0);
+        larger = larger_than (2 ^ h.shifts.unit) (length sizes) (λ k. get_or sizes k 0);
       })
   pub each : (k : ℕ) → k < length sizes → size_of s k ≡ Ok (Some (get_or sizes k 0))
   pub beyond : (k : ℕ) → length sizes ≤ k → size_of s k ≡ Ok None
@@ -43,8 +43,8 @@ reads_back h sizes wide accepted =
     let checks : first_of (segment_checks s) ≡ (Ok tt) = sym (as_read h sizes (omega (arith, f.unit)) (omega (arith, f.unit, f.chunk)) (omega (arith, f.cluster))) ∙ accepted in
     let count = is_count h sizes f.limit in
     let read : (k : ℕ) → k < length sizes → size_at s k ≡ get_or sizes k 0 = λ k inside. is_size h sizes k inside (wide.each k inside) in
-    let larger : larger_than (2 ^ h.unit_shift) (length sizes) (size_at s) ≡ larger_than (2 ^ h.unit_shift) (length sizes) (λ k. get_or sizes k 0) =
-    count_is (length sizes) (λ k inside. ap (ltb (2 ^ h.unit_shift)) (read k inside))
+    let larger : larger_than (2 ^ h.shifts.unit) (length sizes) (size_at s) ≡ larger_than (2 ^ h.shifts.unit) (length sizes) (λ k. get_or sizes k 0) =
+    count_is (length sizes) (λ k inside. ap (ltb (2 ^ h.shifts.unit)) (read k inside))
     in
     record {
       values = rw (checks, is_head h sizes f wide, is_length h sizes f.limit, count, is_unit h sizes (omega (arith, f.unit)), larger);

@@ -7,7 +7,7 @@ ghost use Rattle.wire.specs.Numbers.{le_of, le_bytes};
 ghost use Rattle.wire.specs.Parts.{le_at, be_at, part_of, start_of, onto, le32_bytes};
 
 // A place in a slice: `len` bytes from `at` on.
-#[derive(Clone, Copy)]
+#[derive(Clone, Copy, Debug, PartialEq, Eq)]
 pub struct Span {
     pub at: usize,
     pub len: usize,

@@ -22,12 +22,12 @@ unfolding segment_checks first_of
 returns-then-are_marks_wrong c =
     rw (le-ltb _ _ c.if-len-gt-LIMIT.false, le-ltb _ _ c.if-len-lt28.false, ← c.le32_at.ensures, ← c.le16_at.ensures, sym c.do_disagree.ensures ∙ c.if-do_disagree.false, ← c.le16_at-2.ensures, ← c.byte_at.ensures, sym c.are_marks_wrong.ensures ∙ c.if-are_marks_wrong.true)
 
-pub returns-then-are_shifts_wrong : goal.returns-then-are_shifts_wrong
+pub returns-then-are_wrong : goal.returns-then-are_wrong
 unfolding segment_checks first_of
-returns-then-are_shifts_wrong c =
-    rw (le-ltb _ _ c.if-len-gt-LIMIT.false, le-ltb _ _ c.if-len-lt28.false, ← c.le32_at.ensures, ← c.le16_at.ensures, sym c.do_disagree.ensures ∙ c.if-do_disagree.false, ← c.le16_at-2.ensures, ← c.byte_at.ensures, sym c.are_marks_wrong.ensures ∙ c.if-are_marks_wrong.false, ← c.byte_at-2.ensures, ← c.byte_at-3.ensures, ← c.byte_at-4.ensures, sym c.are_shifts_wrong.ensures ∙ c.if-are_shifts_wrong.true)
+returns-then-are_wrong c =
+    rw (le-ltb _ _ c.if-len-gt-LIMIT.false, le-ltb _ _ c.if-len-lt28.false, ← c.le32_at.ensures, ← c.le16_at.ensures, sym c.do_disagree.ensures ∙ c.if-do_disagree.false, ← c.le16_at-2.ensures, ← c.byte_at.ensures, sym c.are_marks_wrong.ensures ∙ c.if-are_marks_wrong.false, rw c.shifts_in.ensures at (sym c.are_wrong.ensures ∙ c.if-are_wrong.true))
 
 pub returns : goal.returns
 unfolding segment_checks first_of
 returns c =
-    rw (le-ltb _ _ c.if-len-gt-LIMIT.false, le-ltb _ _ c.if-len-lt28.false, ← c.le32_at.ensures, ← c.le16_at.ensures, sym c.do_disagree.ensures ∙ c.if-do_disagree.false, ← c.le16_at-2.ensures, ← c.byte_at.ensures, sym c.are_marks_wrong.ensures ∙ c.if-are_marks_wrong.false, ← c.byte_at-2.ensures, ← c.byte_at-3.ensures, ← c.byte_at-4.ensures, sym c.are_shifts_wrong.ensures ∙ c.if-are_shifts_wrong.false)
+    rw (le-ltb _ _ c.if-len-gt-LIMIT.false, le-ltb _ _ c.if-len-lt28.false, ← c.le32_at.ensures, ← c.le16_at.ensures, sym c.do_disagree.ensures ∙ c.if-do_disagree.false, ← c.le16_at-2.ensures, ← c.byte_at.ensures, sym c.are_marks_wrong.ensures ∙ c.if-are_marks_wrong.false, rw c.shifts_in.ensures at (sym c.are_wrong.ensures ∙ c.if-are_wrong.false))

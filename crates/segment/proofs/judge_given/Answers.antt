@@ -10,14 +10,14 @@ returns-then-sizes-gt-MOST_BLOCKS c =
     let over : 65535 < segment_length c.args.sizes.now = omega arith in
     rw (lt-ltb 65535 _ over)
 
-pub returns-then-are_shifts_wrong : goal.returns-then-are_shifts_wrong
+pub returns-then-are_wrong : goal.returns-then-are_wrong
 unfolding write_checks first_of
-returns-then-are_shifts_wrong c =
+returns-then-are_wrong c =
     let within : segment_length c.args.sizes.now ≤ 65535 = omega arith in
-    rw (le-ltb 65535 _ (within), sym c.are_shifts_wrong.ensures ∙ c.if-are_shifts_wrong.true)
+    rw (le-ltb 65535 _ (within), sym c.are_wrong.ensures ∙ c.if-are_wrong.true)
 
 pub returns : goal.returns
 unfolding write_checks first_of
 returns c =
     let within : segment_length c.args.sizes.now ≤ 65535 = omega arith in
-    rw (le-ltb 65535 _ (within), sym c.are_shifts_wrong.ensures ∙ c.if-are_shifts_wrong.false)
+    rw (le-ltb 65535 _ (within), sym c.are_wrong.ensures ∙ c.if-are_wrong.false)

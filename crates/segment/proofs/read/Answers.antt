@@ -1,17 +1,17 @@
 -- `read`: what the checks came to is told.
-use Rattle.lemmas.proofs.Basics.{refl, sym, ◌∙◌}
+use Rattle.lemmas.proofs.Basics.{refl, sym}
+use Rattle.std.proofs.lemmas.Result.{err_from_is_err_and}
 use Rattle.refusal.specs.Chain.{unless_refused}
 use Rattle.segment.proofs.Reading.{segment_judged, accepted-fits}
 use Rattle.segment.proofs.read.Goals as goal
 
 pub shown-requires : goal.shown-requires
-unfolding unless_refused
-shown-requires c = accepted-fits _ (sym c.judge.ensures ∙ c.in-Ok.is)
+shown-requires c = accepted-fits _ (sym c.in_ok-judge.ensures)
 
-pub returns-in-Ok : goal.returns-in-Ok
+pub returns-in_err-judge : goal.returns-in_err-judge
 unfolding unless_refused
-returns-in-Ok c = sym (segment_judged _ (sym c.in-Ok.is ∙ c.judge.ensures) c.shown.ensures)
+returns-in_err-judge c = let p = err_from_is_err_and c.from_residual.result c.from_residual.ensures.1 in rw (p.1, p.2) (sym (segment_judged _ c.in_err-judge.ensures refl))
 
-pub returns-in-Err : goal.returns-in-Err
+pub returns : goal.returns
 unfolding unless_refused
-returns-in-Err c = sym (segment_judged _ (sym c.in-Err.is ∙ c.judge.ensures) refl)
+returns c = sym (segment_judged _ c.in_ok-judge.ensures c.shown.ensures)
