@@ -164,13 +164,11 @@ fn larger(s: &[u8], blocks: u16, unit: u32) -> u32
     ensures { result ≡ larger_than unit blocks (size_at s.now) }
 {
     let mut larger = 0;
-    let mut k = 0;
-    while k < blocks as usize {
+    for k in 0..blocks as usize {
         let at = 28 + 4 * k;
         if unit < le32_at(&s[at..at + 4], 0) {
             larger += 1;
         }
-        k += 1;
     }
     larger
 }

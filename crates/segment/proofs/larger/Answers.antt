@@ -8,7 +8,7 @@ use Rattle.segment.proofs.larger.Goals.{then-unit-le32_at, else-unit-le32_at}
 
 pub loop-k-init : goal.loop-k-init
 unfolding count
-loop-k-init c = (omega arith, omega arith, refl)
+loop-k-init c = (omega arith, refl)
 
 pub slice_bounds-le32_at-end : goal.slice_bounds-le32_at-end
 slice_bounds-le32_at-end c = omega (arith, c.requires)
@@ -19,11 +19,11 @@ loop-k-preserved c =
     let inside : 28 + 4 * c.loop-k.k + 4 ≤ length c.args.s.now = omega (arith, c.requires) in
     let is = c.le32_at.ensures ∙ size_in c.args.s.now c.loop-k.k inside in
     elim c.if-unit-le32_at.branch [
-      | then-unit-le32_at w ↦ (omega arith, omega arith, w.larger-is ∙ ap (λ n. n + 1) c.loop-k.invariant.2 ∙ one_larger c.args.unit c.loop-k.k size is w.if-unit-le32_at.true)
-      | else-unit-le32_at w ↦ (omega arith, omega arith, w.larger-is ∙ c.loop-k.invariant.2 ∙ not_larger c.args.unit c.loop-k.k size is w.if-unit-le32_at.false)
+      | then-unit-le32_at w ↦ (omega arith, w.larger-is ∙ ap (λ n. n + 1) c.loop-k.invariant.1 ∙ one_larger c.args.unit c.loop-k.k size is w.if-unit-le32_at.true)
+      | else-unit-le32_at w ↦ (omega arith, w.larger-is ∙ c.loop-k.invariant.1 ∙ not_larger c.args.unit c.loop-k.k size is w.if-unit-le32_at.false)
     ]
 
 pub returns : goal.returns
 returns c =
     let all : c.loop-k.k ≡ c.args.blocks = omega arith in
-    c.loop-k.invariant.2 ∙ ap (λ n. larger_than c.args.unit n (size_at c.args.s.now)) all
+    c.loop-k.invariant.1 ∙ ap (λ n. larger_than c.args.unit n (size_at c.args.s.now)) all
