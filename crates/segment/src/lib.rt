@@ -66,6 +66,7 @@ pub fn span_of(read: Result<Segment, Refusal>) -> Span
 }
 
 // What a header shows, or its refusal.
+#[tactic(auto, using(crate::proofs::Reading::segment_judged), unfolding(refusal::specs::Chain::unless_refused))]
 pub fn read(s: &[u8]) -> Result<Segment, Refusal>
     ensures { result ≡ segment_of s.now }
 {
@@ -74,6 +75,7 @@ pub fn read(s: &[u8]) -> Result<Segment, Refusal>
 }
 
 // The checks, in document 02's order; a number is read just before its check.
+#[tactic(auto, unfolding(crate::specs::Reading::segment_checks, refusal::specs::Chain::first_of))]
 fn judge(s: &[u8]) -> Result<(), Refusal>
     ensures { result ≡ first_of (segment_checks s.now) }
 {
@@ -111,6 +113,7 @@ fn are_marks_wrong(zeros: u16, one: u8) -> bool
 }
 
 // What an accepted header shows.
+#[tactic(auto, unfolding(crate::specs::Reading::shown))]
 fn shown(s: &[u8]) -> Segment
     requires { (unit_shift s.now ≤ 31) × (length_for (block_count s.now) ≤ length s.now) }
     ensures { result ≡ shown s.now }
@@ -129,6 +132,7 @@ fn shown(s: &[u8]) -> Segment
 }
 
 // The numbers that are shown as they stand.
+#[tactic(auto, unfolding(crate::specs::Layout::head_of))]
 fn head_in(s: &[u8]) -> Head
     ensures { result ≡ head_of s.now }
 {
@@ -174,6 +178,7 @@ fn larger(s: &[u8], blocks: u16, unit: u32) -> u32
 }
 
 // The size of the block at an index, none beyond the count; what the reader refuses is refused.
+#[tactic(auto, unfolding(crate::specs::Reading::size_of, crate::specs::Layout::size_at, refusal::specs::Chain::unless_refused))]
 pub fn size(s: &[u8], index: usize) -> Result<Option<u32>, Refusal>
     ensures { result ≡ size_of s.now index }
 {
@@ -194,6 +199,7 @@ pub fn part(s: &[u8]) -> &[u8]
 
 // Writes a header of its numbers and the blocks' sizes, with no bytes after them: what is given is judged, then 13. A refusal keeps
 // the output's bytes; success keeps those behind the record.
+#[tactic(auto, using(crate::proofs::Writing::fits), unfolding(records::specs::Writing::written_of, records::specs::Writing::output_of, refusal::specs::Chain::unless_refused, refusal::specs::Chain::refuse_if))]
 pub fn write(out: &mut [u8], head: Head, sizes: &[u32]) -> Result<usize, Refusal>
     ensures answer { result ≡ segment_written head sizes.now (length out.old) }
     ensures output { out.new ≡ output_of result (segment_bytes head sizes.now) out.old }
@@ -208,6 +214,7 @@ pub fn write(out: &mut [u8], head: Head, sizes: &[u32]) -> Result<usize, Refusal
 }
 
 // 1, 25: what the reader would say of the bytes.
+#[tactic(auto, unfolding(crate::specs::Writing::write_checks, refusal::specs::Chain::first_of))]
 fn judge_given(head: Head, sizes: &[u32]) -> Result<(), Refusal>
     ensures { result ≡ first_of (write_checks head sizes.now) }
 {
@@ -223,7 +230,9 @@ fn judge_given(head: Head, sizes: &[u32]) -> Result<(), Refusal>
 // The start offset, the numbers of four bytes behind it, and the sizes, each into its own part of the output. The fixed bytes, the
 // shifts and the count make two such numbers.
 fn put(out: &mut [u8], head: Head, sizes: &[u32])
-    requires { (first_of (write_checks head sizes.now) ≡ Ok tt) × (segment_length sizes.now ≤ length out.old) }
+    requires limit { segment_length sizes.now ≤ 65535 }
+    requires shifts { (head.shifts.chunk ≡ head.shifts.unit) × (head.shifts.unit ≤ 31) × (head.shifts.cluster ≤ 31) }
+    requires room { segment_length sizes.now ≤ length out.old }
     ensures { out.new ≡ onto (segment_bytes head sizes.now) out.old }
 {
     let len = 28 + 4 * sizes.len();
