@@ -52,6 +52,14 @@ impl Shifts {
     {
         (self.chunk != self.unit) | (31 < self.unit) | (31 < self.chunk) | (31 < self.cluster)
     }
+
+    // The data unit's size.
+    fn data_unit(self) -> u32
+        requires { self.unit ≤ 31 }
+        ensures { result ≡ 2 ^ self.unit }
+    {
+        1 << self.unit
+    }
 }
 
 // Where the sizes of what was read stand: those of a refused header are empty at 0.
@@ -113,21 +121,22 @@ fn are_marks_wrong(zeros: u16, one: u8) -> bool
 }
 
 // What an accepted header shows.
-#[tactic(auto, unfolding(crate::specs::Reading::shown))]
+#[tactic(auto, unfolding(crate::specs::Reading::shown, crate::specs::Layout::head_of))]
 fn shown(s: &[u8]) -> Segment
     requires { (unit_shift s.now ≤ 31) × (length_for (block_count s.now) ≤ length s.now) }
     ensures { result ≡ shown s.now }
 {
+    let head = head_in(s);
     let blocks = le16_at(s, 26);
     Segment {
-        head: head_in(s),
+        head,
         length: le32_at(s, 8),
         blocks: blocks as u32,
         sizes: Span {
             at: 28,
             len: 4 * (blocks as usize),
         },
-        larger: larger(s, blocks, data_unit(byte_at(s, 22) as u32)),
+        larger: larger(s, blocks, head.shifts.data_unit()),
     }
 }
 
@@ -154,15 +163,8 @@ fn shifts_in(s: &[u8]) -> Shifts
     }
 }
 
-// The data unit's size, of which the shift is the base-2 logarithm.
-fn data_unit(shift: u32) -> u32
-    requires { shift ≤ 31 }
-    ensures { result ≡ 2 ^ shift }
-{
-    1 << shift
-}
-
 // How many blocks are larger than the data unit, in one pass over their sizes.
+#[tactic(auto, using(crate::proofs::Blocks::size_in, crate::proofs::Blocks::one_larger, crate::proofs::Blocks::not_larger), unfolding(lemmas::specs::Counting::count))]
 fn larger(s: &[u8], blocks: u16, unit: u32) -> u32
     requires { length_for blocks ≤ length s.now }
     ensures { result ≡ larger_than unit blocks (size_at s.now) }
@@ -190,6 +192,7 @@ pub fn size(s: &[u8], index: usize) -> Result<Option<u32>, Refusal>
 }
 
 // The bytes of the sizes: those very bytes of s, or the empty part on a refusal.
+#[tactic(auto, using(wire::proofs::Parts::start_in, crate::proofs::Reading::part_inside))]
 pub fn part(s: &[u8]) -> &[u8]
     ensures bytes { result.now ≡ segment_part s.now }
     ensures place { (result.ref_ptr.0 ≡ s.entry.ref_ptr.0) × (result.ref_ptr.1 ≡ s.entry.ref_ptr.1 + (segment_span s.now).at) }
