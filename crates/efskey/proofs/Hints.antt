@@ -7,7 +7,7 @@ use Rattle.refusal.specs.declared.Refusal.TheVariants.{MalformedSid}
 use Rattle.refusal.specs.Outcome.{Outcome}
 use Rattle.refusal.specs.Chain.{◌⇒◌, first_of}
 use Rattle.efskey.specs.declared.SidHint.{SidHint}
-use Rattle.lemmas.proofs.Cases.{by_cases, cond_cases, both_true}
+use Rattle.lemmas.proofs.Cases.{by_cases, both_true}
 use Rattle.lemmas.proofs.Counting.{every_all, all_every}
 use Rattle.sid.specs.WellFormed as sid
 use Rattle.efskey.specs.declared.SidHint.TheVariants.{None, Sid, NoHint}

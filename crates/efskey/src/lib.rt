@@ -56,8 +56,7 @@ impl SidHint {
     {
         match self {
             SidHint::None => Span { at: 0, len: 0 },
-            SidHint::Sid(span) => span,
-            SidHint::NoHint(span) => span,
+            SidHint::Sid(span) | SidHint::NoHint(span) => span,
         }
     }
 
