@@ -1,6 +1,6 @@
--- `EnvelopeRead::span`: the answer is told; a refusal has no place.
+-- `span_of`: the answer is told; a refusal has no place.
 use Rattle.envelope.specs.Reading.{span_of}
-use Rattle.envelope.proofs.EnvelopeRead.span.Goals as goal
+use Rattle.envelope.proofs.span_of.Goals as goal
 
 pub returns-in-Ok : goal.returns-in-Ok
 unfolding span_of
