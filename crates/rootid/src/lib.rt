@@ -7,7 +7,7 @@ ghost use Rattle.wire.specs.Parts.{onto};
 ghost use Rattle.rootid.specs.Root.{root_at, root_bytes, same_root};
 
 // `low` is bytes 0 to 8, `high` is bytes 8 to 16.
-#[derive(Clone, Copy)]
+#[derive(Clone, Copy, Debug, PartialEq, Eq)]
 pub struct RootId {
     pub low: u64,
     pub high: u64,
