@@ -1,12 +1,13 @@
 -- A descriptor is sound exactly when it is well formed.
 use Rattle.lemmas.proofs.Basics.{ℕ, ◌+◌, ◌-◌, ◌≤◌, arith, Bool, true, false, not, cond, ◌&&◌, List, ◌≡◌, refl, sym, ◌∙◌, leb, eqb, length, drop, length-drop, length-take-le, le-leb, leb-true, eq-eqb, eqb-true, ⊎_elim}
+use Rattle.std.specs.Prelude.{Ok, Err}
 use Rattle.lemmas.specs.Beginning.{Begins}
 use Rattle.lemmas.proofs.Cases.{both_true, true-and, or-true, true-or}
 use Rattle.wire.proofs.Parts.{part_in}
 use Rattle.sid.specs.Rule.{starts_sid}
 use Rattle.sid.specs.WellFormed as sid
 use Rattle.sid.proofs.ExactlyWhen.{starts_begins, begins_starts}
-use Rattle.descriptor.specs.declared.Finding.TheVariants.{Sound, Head, Owner, Group, Sacl, Dacl}
+use Rattle.descriptor.specs.declared.Part.TheVariants.{Head, Owner, Group, Sacl, Dacl}
 use Rattle.descriptor.specs.Layout.{revision, owner_at, group_at, sacl_at, dacl_at}
 use Rattle.descriptor.specs.Checking.{starts_acl, names, head_sound, finding_of, finding_number, is_sound}
 use Rattle.descriptor.specs.WellFormed.{Acl, Names, nothing, something, WellFormed}
@@ -43,7 +44,7 @@ some_acl t w = omega (arith, w.sized.head)
 
 -- sound is that no part fails
 no_part : (head owner group sacl dacl : Bool)
-    → eqb (finding_number (cond (not head) Head (cond (not owner) Owner (cond (not group) Group (cond (not sacl) Sacl (cond (not dacl) Dacl Sound)))))) 0 ≡ head && (owner && (group && (sacl && dacl)))
+    → eqb (finding_number (cond (not head) (Err Head) (cond (not owner) (Err Owner) (cond (not group) (Err Group) (cond (not sacl) (Err Sacl) (cond (not dacl) (Err Dacl) (Ok tt))))))) 0 ≡ head && (owner && (group && (sacl && dacl)))
 unfolding finding_number
 no_part false owner group sacl dacl = refl
 no_part true false group sacl dacl = refl

@@ -1,9 +1,9 @@
 -- Document 02, No. 5: whether bytes are a sound self-relative descriptor, or which part fails first. Each item is judged where it stands,
 -- at the start of the bytes from its offset on: no offset is added to another, and what lies behind the end is no item.
-use Rattle.std.specs.Prelude.{ℕ, zero, suc, Bool, true, cond, not, ◌&&◌, ◌||◌, List, leb, eqb, length, take, drop}
+use Rattle.std.specs.Prelude.{ℕ, zero, suc, Bool, true, cond, not, ◌&&◌, ◌||◌, List, leb, eqb, length, take, drop, Result, Ok, Err}
 use Rattle.sid.specs.Rule.{starts_sid}
-use Rattle.descriptor.specs.declared.Finding.{Finding}
-use Rattle.descriptor.specs.declared.Finding.TheVariants.{Sound, Head, Owner, Group, Sacl, Dacl}
+use Rattle.descriptor.specs.declared.Part.{Part}
+use Rattle.descriptor.specs.declared.Part.TheVariants.{Head, Owner, Group, Sacl, Dacl}
 use Rattle.descriptor.specs.Layout.{revision, owner_at, group_at, sacl_at, dacl_at, self_relative, told_size, entry_count}
 
 -- an item that tells its own size, which is at least that of its head, and lies inside
@@ -28,23 +28,23 @@ unfoldable pub head_sound : List ℕ → Bool
 head_sound s = leb (length s) 65535 && (leb 20 (length s) && (eqb (revision s) 1 && eqb (self_relative s) 1))
 
 -- head, owner, group, SACL, DACL: the first that fails, or sound
-unfoldable pub finding_of : List ℕ → Finding
+unfoldable pub finding_of : List ℕ → Result (Unit {0}) Part
 finding_of s =
-    cond (not (head_sound s)) Head
-    (cond (not (names starts_sid s (owner_at s))) Owner
-    (cond (not (names starts_sid s (group_at s))) Group
-    (cond (not (names starts_acl s (sacl_at s))) Sacl
-    (cond (not (names starts_acl s (dacl_at s))) Dacl
-    Sound))))
+    cond (not (head_sound s)) (Err Head)
+    (cond (not (names starts_sid s (owner_at s))) (Err Owner)
+    (cond (not (names starts_sid s (group_at s))) (Err Group)
+    (cond (not (names starts_acl s (sacl_at s))) (Err Sacl)
+    (cond (not (names starts_acl s (dacl_at s))) (Err Dacl)
+    (Ok tt)))))
 
 -- its number: 0 for sound, else the part's
-unfoldable pub finding_number : Finding → ℕ
-finding_number Sound = 0
-finding_number Head = 1
-finding_number Owner = 2
-finding_number Group = 3
-finding_number Sacl = 4
-finding_number Dacl = 5
+unfoldable pub finding_number : Result (Unit {0}) Part → ℕ
+finding_number (Ok tt) = 0
+finding_number (Err Head) = 1
+finding_number (Err Owner) = 2
+finding_number (Err Group) = 3
+finding_number (Err Sacl) = 4
+finding_number (Err Dacl) = 5
 
 unfoldable pub is_sound : List ℕ → Bool
 is_sound s = eqb (finding_number (finding_of s)) 0

@@ -2,38 +2,31 @@
 // judged: other control bits, reserved fields, types, sizes that are no multiple of 4, and bytes that no item covers may be anything.
 #![tactic(auto)]
 
-ghost use Rattle.std.specs.Prelude.{◌≡◌};
-ghost use Rattle.sid.specs.Rule.{starts_sid};
+ghost use Rattle.std.specs.Prelude.{◌≡◌, ℕ, Bool, List};
+ghost use Rattle.std.specs.Fn.{FnOnceReturnsAt};
 ghost use Rattle.descriptor.specs.Checking.{entries_fit, starts_acl, names, head_sound, finding_of, finding_number, is_sound};
 
 use records::LIMIT;
 use sid::starts_sid;
 use wire::{Span, byte_at, le16_at, le32_at, part, rest};
 
-// What the check finds: a sound descriptor, or the part that fails first.
-#[derive(Clone, Copy)]
-pub enum Finding {
-    Sound,
-    Head,
-    Owner,
-    Group,
-    Sacl,
-    Dacl,
+// The parts of a descriptor, in the order in which they are judged. Each has a number.
+#[derive(Clone, Copy, Debug, PartialEq, Eq)]
+pub enum Part {
+    Head = 1,
+    Owner = 2,
+    Group = 3,
+    Sacl = 4,
+    Dacl = 5,
 }
 
-impl Finding {
-    // 0 for sound, else the part's number.
-    pub fn number(self) -> u32
-        ensures { result ≡ finding_number self }
-    {
-        match self {
-            Finding::Sound => 0,
-            Finding::Head => 1,
-            Finding::Owner => 2,
-            Finding::Group => 3,
-            Finding::Sacl => 4,
-            Finding::Dacl => 5,
-        }
+// The number of what the check finds: 0 for sound, else the part's.
+pub fn number(finding: Result<(), Part>) -> u32
+    ensures { result ≡ finding_number finding }
+{
+    match finding {
+        Ok(()) => 0,
+        Err(part) => part as u32,
     }
 }
 
@@ -41,29 +34,29 @@ impl Finding {
 pub fn is_sound(s: &[u8]) -> bool
     ensures { result ≡ is_sound s.now }
 {
-    check(s).number() == 0
+    check(s).is_ok()
 }
 
-// Head, owner, group, SACL, DACL, in the standard's order. Each ACL is passed over once.
-pub fn check(s: &[u8]) -> Finding
+// Sound, or the part that fails first: head, owner, group, SACL, DACL, in the standard's order. Each ACL is passed over once.
+pub fn check(s: &[u8]) -> Result<(), Part>
     ensures { result ≡ finding_of s.now }
 {
     if !has_sound_head(s) {
-        return Finding::Head;
+        return Err(Part::Head);
     }
-    if !names_sid(s, le32_at(s, 4)) {
-        return Finding::Owner;
+    if !names(s, le32_at(s, 4), starts_sid) {
+        return Err(Part::Owner);
     }
-    if !names_sid(s, le32_at(s, 8)) {
-        return Finding::Group;
+    if !names(s, le32_at(s, 8), starts_sid) {
+        return Err(Part::Group);
     }
-    if !names_acl(s, le32_at(s, 12)) {
-        return Finding::Sacl;
+    if !names(s, le32_at(s, 12), starts_acl) {
+        return Err(Part::Sacl);
     }
-    if !names_acl(s, le32_at(s, 16)) {
-        return Finding::Dacl;
+    if !names(s, le32_at(s, 16), starts_acl) {
+        return Err(Part::Dacl);
     }
-    Finding::Sound
+    Ok(())
 }
 
 // At most 65,535 bytes, a head of 20, revision 1, and the control bit 0x8000.
@@ -82,9 +75,10 @@ fn has_sound_head(s: &[u8]) -> bool
     le16_at(s, 2) / 32768 % 2 == 1
 }
 
-// Owner and group: an offset is 0, or at least 20 with a SID inside the descriptor.
-fn names_sid(s: &[u8], at: u32) -> bool
-    ensures { result ≡ names starts_sid s.now at }
+// An offset is 0, or at least 20 with its item inside the descriptor: a SID for owner and group, an ACL for SACL and DACL.
+fn names<F: FnOnce(&[u8]) -> bool>(s: &[u8], at: u32, starts: F) -> bool
+    requires { F.IsAlwaysCallable starts }
+    ensures { (item : List ℕ → Bool) → ((t : List ℕ) (b : Bool) → FnOnceReturnsAt F.FnOnce starts t b → b ≡ item t) → result ≡ names item s.now at }
 {
     if at == 0 {
         return true;
@@ -92,20 +86,7 @@ fn names_sid(s: &[u8], at: u32) -> bool
     if at < 20 {
         return false;
     }
-    starts_sid(rest(s, at as usize))
-}
-
-// SACL and DACL: likewise, with an ACL.
-fn names_acl(s: &[u8], at: u32) -> bool
-    ensures { result ≡ names starts_acl s.now at }
-{
-    if at == 0 {
-        return true;
-    }
-    if at < 20 {
-        return false;
-    }
-    starts_acl(rest(s, at as usize))
+    starts(rest(s, at as usize))
 }
 
 // An ACL: at least its head's 8 bytes and inside; its entries are those behind the head, inside its own size.
@@ -127,8 +108,7 @@ fn entries_fit(count: u16, t: &[u8]) -> bool
     ensures { result ≡ entries_fit count t.now }
 {
     let mut entries = t;
-    let mut left = count;
-    while left > 0 {
+    for _ in 0..count {
         let size = le16_at(entries, 2) as usize;
         if size < 4 {
             return false;
@@ -137,7 +117,6 @@ fn entries_fit(count: u16, t: &[u8]) -> bool
             return false;
         }
         entries = &entries[size..];
-        left -= 1;
     }
     true
 }

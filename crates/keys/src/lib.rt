@@ -9,10 +9,10 @@ ghost use Rattle.keys.specs.KeyRule.{l1_key_allowed, l2_key_allowed, keys_allowe
 ghost use Rattle.keys.specs.Forms.{keys_of, seed_form, seed_key_length, seed_checks};
 
 use gkid::Gkid;
-use refusal::{Outcome, Refusal};
+use refusal::{Refusal, refuse_if};
 
 // Which keys an envelope carries: NOKEY, L1ONLY, L2ONLY, BOTH or PUBLIC.
-#[derive(Clone, Copy)]
+#[derive(Clone, Copy, Debug, PartialEq, Eq)]
 pub enum Form {
     Keyless,
     L1Only,
@@ -22,7 +22,7 @@ pub enum Form {
 }
 
 // The seed keys that are present.
-#[derive(Clone, Copy)]
+#[derive(Clone, Copy, Debug, PartialEq, Eq)]
 pub struct SeedKeys {
     pub l1: bool,
     pub l2: bool,
@@ -73,14 +73,15 @@ pub fn judge(
     public_length: usize,
     l1_length: usize,
     l2_length: usize,
-) -> Outcome
+) -> Result<(), Refusal>
     ensures { result ≡ first_of (key_checks public at public_length l1_length l2_length) }
 {
     let allowed = keys_allowed(public, at, public_length, l1_length, l2_length);
-    Ok(()).refuse_if(!allowed, Refusal::KeyLength)
+    refuse_if(!allowed, Refusal::KeyLength)
 }
 
-// A key written into the part of the output where it stands.
+// A key written into the part of the output where it stands. That a text is written so too is no twin: each rule has its writer beside
+// it, so that a rule that moves moves one crate (docs/ARCHITECTURE.md, "One room for each rule").
 pub fn put(dst: &mut [u8], key: &[u8])
     ensures { dst.new ≡ onto key.now dst.old }
 {
@@ -138,7 +139,7 @@ impl SeedKeys {
     }
 
     // What a seed envelope at an identifier with just those keys is answered: 5, then the key rule.
-    pub fn judge(self, at: Gkid) -> Outcome
+    pub fn judge(self, at: Gkid) -> Result<(), Refusal>
         ensures { result ≡ first_of (seed_checks self at) }
     {
         if at.index_above_31() {

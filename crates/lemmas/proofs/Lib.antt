@@ -1,3 +1,4 @@
 pub mod Basics
 pub mod Cases
 pub mod Counting
+pub mod Results

@@ -12,7 +12,7 @@ use Rattle.gkid.proofs.Order.{ordinal, later_ordinal}
 use Rattle.keys.specs.Forms.{keys_of, seed_form}
 use Rattle.keys.proofs.FormLaws.{form_cases, seed_form-accepted}
 use Rattle.reach.specs.Reached.{of_group, l1_reaches, l2_reaches, reaches}
-use Rattle.reach.specs.Reaches.{map_reach, keys_reach, form_reach, reach_total, reached_in}
+use Rattle.reach.specs.Reaches.{map_reach, keys_reach, form_reach, reach_rows, reach_total, reached_in}
 use Rattle.reach.proofs.ReachLaws.{group_is, is_group, outside}
 use Rattle.reach.proofs.MapLaws.{in_map_lem, member, map-total}
 
@@ -53,7 +53,7 @@ seed_reaches at i g =
 
 -- So do the bits of the form's map.
 pub seed_bits : (at i : Gkid) → InGroup at → reached_in at (form_reach (seed_form at) at) i ≡ of_group at i && not (later i at)
-unfolding reached_in
+unfolding reached_in reach_rows
 seed_bits at i g = rw (seed_accepted at g) (in_map_lem (keys_of (seed_form at)) at i ∙ seed_reaches at i g)
 
 -- of the numbers below n, those up to m
@@ -67,7 +67,7 @@ count_to (suc n) m =
 
 -- Its total is 32·L1 + L2 + 1.
 pub seed_total : (at : Gkid) → InGroup at → reach_total (form_reach (seed_form at) at) ≡ 32 * at.l1.0 + at.l2.0 + 1
-unfolding reach_total
+unfolding reach_total reach_rows
 seed_total at g =
     let below : 32 * at.l1.0 + at.l2.0 < 1024 = omega arith in
     rw (seed_accepted at g)

@@ -6,16 +6,15 @@ ghost use Rattle.std.specs.Prelude.{◌≡◌, leb};
 ghost use Rattle.reach.specs.Reached.{of_group, l1_reaches, l2_reaches};
 ghost use Rattle.reach.specs.Bits.{row_where};
 ghost use Rattle.reach.specs.Maps.{row_of, map_of, total_of};
-ghost use Rattle.reach.specs.Reaches.{keys_reach, refused_reach, form_reach, reach_number, reach_rows, reach_total};
+ghost use Rattle.reach.specs.Reaches.{keys_reach, form_reach};
 
 use gkid::{Gkid, L1, L2};
 use keys::{Form, SeedKeys};
-use refusal::{Outcome, Refusal};
+use refusal::Refusal;
 
-// What is reached: the map, or the refusal with every row zero.
-#[derive(Clone, Copy)]
+// What is reached: the map.
+#[derive(Clone, Copy, Debug, PartialEq, Eq)]
 pub struct Reach {
-    outcome: Outcome,
     rows: [u32; 32],
 }
 
@@ -83,78 +82,44 @@ fn row(keys: SeedKeys, at: Gkid, l1: u32) -> u32
 fn map(keys: SeedKeys, at: Gkid) -> [u32; 32]
     ensures { result ≡ map_of keys at }
 {
-    let mut rows = [0u32; 32];
-    let mut i = 0;
-    while i < 32 {
-        rows[i] = row(keys, at, i as u32);
-        i += 1;
+    let mut rows = [0; 32];
+    for l1 in 0..32 {
+        rows[l1] = row(keys, at, l1 as u32);
     }
     rows
 }
 
-// The number of set bits of a map.
-fn total(rows: [u32; 32]) -> u32
-    ensures { result ≡ total_of rows }
-{
-    let mut sum = 0;
-    let mut i = 0;
-    while i < 32 {
-        sum += u32::count_ones(rows[i]);
-        i += 1;
-    }
-    sum
-}
-
 impl Reach {
     // What a seed envelope at an identifier with just these keys reaches: 5, then 11, where such an envelope would be refused.
-    pub fn of(keys: SeedKeys, at: Gkid) -> Reach
+    pub fn of(keys: SeedKeys, at: Gkid) -> Result<Reach, Refusal>
         ensures { result ≡ keys_reach keys at }
     {
-        if let Err(refusal) = keys.judge(at) {
-            return Reach::refused(refusal);
-        }
-        Reach {
-            outcome: Ok(()),
-            rows: map(keys, at),
-        }
-    }
-
-    // A refusal reaches nothing.
-    pub fn refused(refusal: Refusal) -> Reach
-        ensures { result ≡ refused_reach refusal }
-    {
-        Reach {
-            outcome: Err(refusal),
-            rows: [0; 32],
-        }
-    }
-
-    // Document 01's number: 0 where accepted.
-    pub fn number(self) -> u32
-        ensures { result ≡ reach_number self }
-    {
-        let outcome = self.outcome;
-        outcome.number()
+        keys.judge(at)?;
+        let rows = map(keys, at);
+        Ok(Reach { rows })
     }
 
     // The map: row L1, index L2 0 the most significant bit.
     pub fn rows(self) -> [u32; 32]
-        ensures { result ≡ reach_rows self }
+        ensures { result ≡ self.rows }
     {
         self.rows
     }
 
     // The number of set bits.
     pub fn total(self) -> u32
-        ensures { result ≡ reach_total self }
+        ensures { result ≡ total_of self.rows }
     {
-        let rows = self.rows;
-        total(rows)
+        let mut total = 0;
+        for row in &self.rows {
+            total += row.count_ones();
+        }
+        total
     }
 }
 
 // The reach of a form at an identifier: that of a seed envelope with just those keys.
-pub fn form_reach(form: Form, at: Gkid) -> Reach
+pub fn form_reach(form: Form, at: Gkid) -> Result<Reach, Refusal>
     ensures { result ≡ form_reach form at }
 {
     Reach::of(form.keys(), at)

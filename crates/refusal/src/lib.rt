@@ -1,9 +1,9 @@
 // The refusals of document 01 as one enum, each with its number, and a check of a chain: the first that fails is the answer.
 #![tactic(auto)]
 
-ghost use Rattle.std.specs.Prelude.{◌≡◌};
+ghost use Rattle.std.specs.Prelude.{◌≡◌, [], ◌∷◌};
 ghost use Rattle.refusal.specs.Number.{number_of};
-ghost use Rattle.refusal.specs.Chain.{refuse_if};
+ghost use Rattle.refusal.specs.Chain.{◌⇒◌, first_of};
 
 // Document 01, "Refusal numbers": a variant for each row of the table, in its order. Document 02 adds rows: No. 1 the row 25, No. 6 the
 // row 24, No. 7 the row 26.
@@ -73,7 +73,7 @@ impl Refusal {
 
 // One check of a chain: its refusal where it fails.
 pub fn refuse_if(fails: bool, refusal: Refusal) -> Result<(), Refusal>
-    ensures { result ≡ refuse_if (Ok tt) fails refusal }
+    ensures { result ≡ first_of ((fails ⇒ refusal) ∷ []) }
 {
     if fails { Err(refusal) } else { Ok(()) }
 }

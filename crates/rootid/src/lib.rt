@@ -7,7 +7,7 @@ ghost use Rattle.wire.specs.Parts.{onto};
 ghost use Rattle.rootid.specs.Root.{root_at, root_bytes, same_root};
 
 // `low` is bytes 0 to 8, `high` is bytes 8 to 16.
-#[derive(Clone, Copy, Debug, PartialEq, Eq)]
+#[derive(Debug, Clone, Copy, PartialEq, Eq)]
 pub struct RootId {
     pub low: u64,
     pub high: u64,
@@ -28,7 +28,7 @@ impl RootId {
     pub fn is(self, other: RootId) -> bool
         ensures { result ≡ same_root self other }
     {
-        self.high == other.high && self.low == other.low
+        self == other
     }
 
     // The 16 bytes, put at the start of a lent part.

@@ -7,12 +7,12 @@ ghost use Rattle.wire.specs.Parts.{onto};
 ghost use Rattle.text.specs.Units.{is_high, is_low};
 ghost use Rattle.text.specs.Text.{text_checks};
 
-use refusal::{Outcome, Refusal};
+use refusal::{Refusal, refuse_if};
 use wire::le16_at;
 
 // Whether a text is accepted, or its refusal: 10 unless it is whole 16-bit units, the last one zero and no earlier one; then 24 for an
 // unpaired surrogate. One pass, in which no unit decides where it goes on: each is compared with zero and with the unit behind it.
-pub fn judge(s: &[u8]) -> Outcome
+pub fn judge(s: &[u8]) -> Result<(), Refusal>
     ensures { result ≡ first_of (text_checks s.now) }
 {
     if s.len() < 2 {
@@ -25,19 +25,16 @@ pub fn judge(s: &[u8]) -> Outcome
     let mut zero = false;
     // Before the first unit there is none, so that a low one there is unpaired.
     let mut unpaired = is_low(le16_at(s, 0));
-    let mut k = 0;
-    while k < last {
+    for k in 0..last {
         let at = 2 * k;
         let two = &s[at..at + 4];
         let unit = le16_at(two, 0);
         let next = le16_at(two, 2);
         zero = zero | (unit == 0);
         unpaired = unpaired | (is_high(unit) != is_low(next));
-        k += 1;
     }
-    Ok(())
-        .refuse_if(zero, Refusal::MalformedText)
-        .refuse_if(unpaired, Refusal::UnpairedSurrogate)
+    refuse_if(zero, Refusal::MalformedText)?;
+    refuse_if(unpaired, Refusal::UnpairedSurrogate)
 }
 
 // A high surrogate, which a low one has to follow.
@@ -54,7 +51,7 @@ fn is_low(unit: u16) -> bool
     (0xDC00 <= unit) & (unit <= 0xDFFF)
 }
 
-// A text written into the part of the output where it stands.
+// A text written into the part of the output where it stands (`keys::put` says why this is no twin of it).
 pub fn put(dst: &mut [u8], text: &[u8])
     ensures { dst.new ≡ onto text.now dst.old }
 {

@@ -1,9 +1,10 @@
 -- `judge`: the one check.
-use Rattle.lemmas.proofs.Basics.{not, refl, ap, ◌∙◌}
-use Rattle.refusal.proofs.Chains.{run, run_first, refuse_is}
+use Rattle.lemmas.proofs.Basics.{not, ap, ◌∙◌, [], ◌∷◌}
+use Rattle.refusal.specs.declared.Refusal.TheVariants.{KeyLength}
+use Rattle.refusal.specs.Chain.{◌⇒◌, first_of}
 use Rattle.keys.specs.KeyRule.{key_checks}
 use Rattle.keys.proofs.judge.Goals as goal
 
 pub returns : goal.returns
-unfolding key_checks run
-returns c = c.refuse_if.ensures ∙ refuse_is _ refl (ap not c.keys_allowed-allowed.ensures) ∙ run_first _
+unfolding key_checks
+returns c = c.refuse_if.ensures ∙ ap (λ allowed. first_of ((not allowed ⇒ KeyLength) ∷ [])) c.keys_allowed-allowed.ensures

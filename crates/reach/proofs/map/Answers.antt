@@ -4,20 +4,19 @@ use Rattle.reach.specs.Bits.{table}
 use Rattle.reach.specs.Maps.{row_of, map_of}
 use Rattle.reach.proofs.map.Goals as goal
 
-pub loop-i-init : goal.loop-i-init
+pub loop-l1-init : goal.loop-l1-init
 unfolding table
-loop-i-init c = (omega arith, refl, refl)
+loop-l1-init c = (refl, refl)
 
-pub loop-i-preserved : goal.loop-i-preserved
+pub loop-l1-preserved : goal.loop-l1-preserved
 unfolding table
-loop-i-preserved c = (
-  omega arith,
-  length-set c.loop-i.rows c.loop-i.i _ ∙ c.loop-i.invariant.1,
-  rw (add-one c.loop-i.i) (take-suc-set c.loop-i.rows c.loop-i.i _ (omega arith) ∙ ap₂ (λ done row. done ++ (row ∷ [])) c.loop-i.invariant.2 c.row.ensures),
+loop-l1-preserved c = (
+  length-set c.loop-l1.rows c.loop-l1.l1 _ ∙ c.loop-l1.invariant.0,
+  rw (add-one c.loop-l1.l1) (take-suc-set c.loop-l1.rows c.loop-l1.l1 _ (omega arith) ∙ ap₂ (λ done row. done ++ (row ∷ [])) c.loop-l1.invariant.1 c.row.ensures),
 )
 
 pub returns : goal.returns
 unfolding map_of
 returns c =
-    let all : c.loop-i.i ≡ 32 = omega arith in
-    sym (take_all c.loop-i.i c.loop-i.rows (omega arith)) ∙ c.loop-i.invariant.2 ∙ ap (λ n. table n (row_of c.args.keys c.args.at)) all
+    let all : c.loop-l1.l1 ≡ 32 = omega arith in
+    sym (take_all c.loop-l1.l1 c.loop-l1.rows (omega arith)) ∙ c.loop-l1.invariant.1 ∙ ap (λ n. table n (row_of c.args.keys c.args.at)) all

@@ -1,10 +1,7 @@
-use Rattle.lemmas.proofs.Basics.{◌-◌, ◌≤◌, not, ◌≡◌}
+use Rattle.lemmas.proofs.Basics.{not, ◌≡◌}
 use Rattle.lemmas.specs.Counting.{every}
 use Rattle.text.proofs.Texts.{nonzero, paired_to}
 use Rattle.text.proofs.judge.Given as goal
 
 abbrev pub invariant-loop-k : goal.invariant-loop-k
-invariant-loop-k l = (l.k ≤ l.last) × (l.zero ≡ not (every l.k (nonzero l.s))) × (l.unpaired ≡ not (paired_to l.s l.k))
-
-abbrev pub decreases-loop-k : goal.decreases-loop-k
-decreases-loop-k l = l.last - l.k
+invariant-loop-k l = (l.zero ≡ not (every l.k (nonzero l.s))) × (l.unpaired ≡ not (paired_to l.s l.k))

@@ -1,12 +1,7 @@
 -- `RootId::is`: both halves.
-use Rattle.lemmas.proofs.Basics.{eq-eqb, ne_eqb}
-use Rattle.rootid.specs.Root.{same_root}
+use Rattle.lemmas.proofs.Basics.{◌∙◌}
+use Rattle.rootid.proofs.Roots.{same_halves}
 use Rattle.rootid.proofs.RootId.is.Goals as goal
 
-pub returns-then-self-other : goal.returns-then-self-other
-unfolding same_root
-returns-then-self-other c = search eq-eqb
-
-pub returns-else-self-other : goal.returns-else-self-other
-unfolding same_root
-returns-else-self-other c = search ne_eqb
+pub returns : goal.returns
+returns c = c.eq.ensures ∙ same_halves c.args.self c.args.other
