@@ -30,8 +30,7 @@ pub struct Granted {
     pub row: Option<usize>,
 }
 
-// The decision. 16 where the descriptor is not sound. What it is of stays apart, one parameter each: `docs/ASSURANCE.md` names the
-// function, which takes what the paper lists.
+// The decision. 16 where the descriptor is not sound. Its parameters and those of `decide_by_verdict` stay apart, as callers pass them.
 pub fn decide(
     descriptor: &[u8],
     rights: Rights,
