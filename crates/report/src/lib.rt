@@ -2,47 +2,43 @@
 // by value: from record to record (`step`), and from chunk to chunk of a trace of any length (`replay`).
 #![tactic(auto)]
 
-ghost use Rattle.std.specs.Prelude.{◌≡◌, min, eqb, length};
+ghost use Rattle.std.specs.Prelude.{◌≡◌, min, length};
 ghost use Rattle.wire.specs.Parts.{onto};
 ghost use Rattle.records.specs.Writing.{output_of};
-ghost use Rattle.getkey.specs.Deciding.{answer_number};
 ghost use Rattle.trace.specs.Reading.{record_length};
 ghost use Rattle.line.specs.Text.{text_of, put_all};
 ghost use Rattle.report.specs.Records.{records_of, has_record, answered, clock_of};
 ghost use Rattle.report.specs.Lines.{answer_words, line_words, total_words, total_line, total_written};
 ghost use Rattle.report.specs.Replaying.{start, step_of, replay_of, progress_of};
 
-use getkey::{Answer, decide_by_verdict};
+use getkey::{Granted, decide_by_verdict};
+use gkid::FileTime;
 use line::{Lent, Line, Text};
-use records::Written;
 use refusal::Refusal;
-use tally::{Clock, Counted, Merged, Tally};
-use trace::RecordRead;
+use tally::{Counted, Tally};
+use trace::Recorded;
 
 // The room that a line is sure to fit in.
 pub const LINE: usize = 128;
 
 // Where a replay stands: the number of the next line, and the total so far. A host that replays a trace in pieces begins each at its own
 // number, with an empty total, and merges the totals.
-#[derive(Clone, Copy)]
+#[derive(Clone, Copy, Debug, PartialEq, Eq)]
 pub struct State {
     pub next: u64,
     pub tally: Tally,
 }
 
-// One record replayed; or a count would not fit in 64 bits.
-#[derive(Clone, Copy)]
-pub enum Stepped {
-    Line {
-        number: u64,
-        answer: Answer,
-        state: State,
-    },
-    Full,
+// One record replayed: its number, its answer and the next state.
+#[derive(Clone, Copy, Debug, PartialEq, Eq)]
+pub struct Stepped {
+    pub number: u64,
+    pub answer: Result<Granted, Refusal>,
+    pub state: State,
 }
 
 // Why a replay stopped: the chunk has no further record; less than `LINE` bytes of the output are left; a count would not fit in 64 bits.
-#[derive(Clone, Copy)]
+#[derive(Clone, Copy, Debug, PartialEq, Eq)]
 pub enum Stopped {
     Records,
     Room,
@@ -50,7 +46,7 @@ pub enum Stopped {
 }
 
 // What was replayed of a chunk: so many bytes of it were used, and so many of the output written.
-#[derive(Clone, Copy)]
+#[derive(Clone, Copy, Debug, PartialEq, Eq)]
 pub struct Progress {
     pub stopped: Stopped,
     pub used: usize,
@@ -70,70 +66,46 @@ impl State {
     }
 }
 
-// One record in, its number, its answer and the next state out.
-pub fn step(state: State, table: &[u8], s: &[u8]) -> Stepped
+// One record in, its number, its answer and the next state out; none if a count would not fit in 64 bits.
+pub fn step(state: State, table: &[u8], s: &[u8]) -> Option<Stepped>
     ensures { result ≡ step_of table.now state s.now }
 {
     let read = trace::read(s);
     let answer = answer_of(read, table);
     let counted = Counted {
-        accepted: is_accepted(answer),
+        accepted: answer.is_ok(),
         clock: clock_of(read),
     };
-    let tally = state.tally;
     let number = state.next;
-    if number == 0xffff_ffff_ffff_ffff {
-        return None;
-    }
-    match tally.merged(Tally::of(counted)) {
-        Some(tally) => SomeLine {
-            number,
-            answer,
-            state: State {
-                next: number + 1,
-                tally,
-            },
-        },
-        None => None,
-    }
+    let next = number.checked_add(1)?;
+    let tally = state.tally.merged(Tally::of(counted))?;
+    Some(Stepped {
+        number,
+        answer,
+        state: State { next, tally },
+    })
 }
 
 // 26, or the decision by verdict at the record's clock.
-fn answer_of(read: RecordRead, table: &[u8]) -> Answer
+fn answer_of(read: Result<Recorded, Refusal>, table: &[u8]) -> Result<Granted, Refusal>
     ensures { result ≡ answered table.now read }
 {
-    match read {
-        Ok(recorded) => {
-            let rights = recorded.rights;
-            let request = recorded.request;
-            let clock = recorded.clock;
-            decide_by_verdict(recorded.verdict, rights, request, clock, table)
-        }
-        Err(refusal) => Err(refusal),
-    }
+    let Recorded {
+        clock,
+        rights,
+        verdict,
+        request,
+    } = read?;
+    decide_by_verdict(verdict, rights, request, clock, table)
 }
 
 // The clock that counts, if the record is not 26.
-fn clock_of(read: RecordRead) -> Clock
+fn clock_of(read: Result<Recorded, Refusal>) -> Option<FileTime>
     ensures { result ≡ clock_of read }
 {
     match read {
-        Ok(recorded) => {
-            let clock = recorded.clock;
-            Some(clock)
-        }
+        Ok(recorded) => Some(recorded.clock),
         Err(_) => None,
-    }
-}
-
-// Accepted is number 0.
-fn is_accepted(answer: Answer) -> bool
-    ensures { result ≡ eqb (answer_number answer) 0 }
-{
-    match answer {
-        OkRow { .. } => true,
-        OkCreate { .. } => true,
-        Err(_) => false,
     }
 }
 
@@ -157,13 +129,9 @@ pub fn replay(out: &mut [u8], state: State, table: &[u8], chunk: &[u8], ends: bo
         }
         let size = record_size(left.len());
         match step(present, table, &left[..size]) {
-            SomeLine {
-                number,
-                answer,
-                state,
-            } => {
-                put_line(&mut text, number, answer);
-                present = state;
+            Some(stepped) => {
+                put_line(&mut text, stepped.number, stepped.answer);
+                present = stepped.state;
                 left = &left[size..];
             }
             None => {
@@ -200,7 +168,7 @@ fn record_size(len: usize) -> usize
 
 // A line put behind the text.
 #[tactic(auto, unfolding(line::specs::Text::put_all, crate::specs::Lines::line_words))]
-pub fn put_line<T: Text>(out: &mut T, number: u64, answer: Answer)
+pub fn put_line<T: Text>(out: &mut T, number: u64, answer: Result<Granted, Refusal>)
     ensures put { T.buffer out.new ≡ put_all (T.buffer out.old) (line_words number answer) }
     ensures lender { T.lender out.new ≡ T.lender out.old }
 {
@@ -210,20 +178,19 @@ pub fn put_line<T: Text>(out: &mut T, number: u64, answer: Answer)
     out.text(b"\n");
 }
 
-#[tactic(auto, unfolding(line::specs::Text::put_all, words::specs::Words::identifier_words, crate::specs::Lines::answer_words))]
-fn put_answer<T: Text>(out: &mut T, answer: Answer)
+#[tactic(auto, unfolding(line::specs::Text::put_all, words::specs::Words::identifier_words, crate::specs::Lines::answer_words, crate::specs::Lines::row_words))]
+fn put_answer<T: Text>(out: &mut T, answer: Result<Granted, Refusal>)
     ensures put { T.buffer out.new ≡ put_all (T.buffer out.old) (answer_words answer) }
     ensures lender { T.lender out.new ≡ T.lender out.old }
 {
-    let (at, form, row) = match answer {
-        OkRow { at, form, row } => (at, form, Some(row)),
-        OkCreate { at, form } => (at, form, None),
+    let granted = match answer {
+        Ok(granted) => granted,
         Err(refusal) => return words::refused(out, refusal),
     };
-    words::identifier(out, at);
+    words::identifier(out, granted.at);
     out.text(b" ");
-    words::form(out, form);
-    match row {
+    words::form(out, granted.form);
+    match granted.row {
         Some(row) => {
             out.text(b" ROW ");
             out.number(row as u64);
@@ -257,7 +224,7 @@ fn put_counts<T: Text>(out: &mut T, tally: Tally)
 
 // The total's line put at the start of lent bytes: 13 where it does not fit. The line is made in place, since one that another function
 // hands out is copied.
-pub fn put_total(out: &mut [u8], tally: Tally) -> Written
+pub fn put_total(out: &mut [u8], tally: Tally) -> Result<usize, Refusal>
     ensures answer { result ≡ total_written tally (length out.old) }
     ensures output { out.new ≡ output_of result (total_line tally) out.old }
 {

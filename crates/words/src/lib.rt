@@ -9,7 +9,6 @@ ghost use Rattle.words.specs.Words.{form_word, identifier_words, refused_words, 
 use gkid::Gkid;
 use keys::Form;
 use line::Text;
-use records::Written;
 use refusal::Refusal;
 use wire::Span;
 
@@ -64,7 +63,7 @@ pub fn span<T: Text>(out: &mut T, span: Span)
 
 // WRITTEN and the record's length; or the refusal.
 #[tactic(auto, unfolding(line::specs::Text::put_all, crate::specs::Words::written_words))]
-pub fn written<T: Text>(out: &mut T, answer: Written)
+pub fn written<T: Text>(out: &mut T, answer: Result<usize, Refusal>)
     ensures put { T.buffer out.new ≡ put_all (T.buffer out.old) (written_words answer) }
     ensures lender { T.lender out.new ≡ T.lender out.old }
 {
@@ -73,6 +72,6 @@ pub fn written<T: Text>(out: &mut T, answer: Written)
             out.text(b"WRITTEN ");
             out.number(len as u64);
         }
-        Err(answer) => refused(out, answer),
+        Err(refusal) => refused(out, refusal),
     }
 }

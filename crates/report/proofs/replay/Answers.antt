@@ -40,12 +40,12 @@ returns-then-text-lt-LINE c =
     in
     record { answer = whole.answer; output = search (rules, whole.output) }
 
-pub returns-in-Full : goal.returns-in-Full
-returns-in-Full c =
+pub returns-in-None : goal.returns-in-None
+returns-in-None c =
     let whole =
     replaying_stop c.loop-left.invariant.replaying Full
     (no_count c.loop-left.invariant.replaying (sym c.has_record.ensures ∙ c.loop-left-test.true) (omega (arith, length_out c.loop-left.invariant.replaying))
-    (ap (step_of _ _) (sym (first_cut _ _ c.record_size-size.ensures).0) ∙ sym c.step.ensures ∙ c.in-Full.is))
+    (ap (step_of _ _) (sym (first_cut _ _ c.record_size-size.ensures).0) ∙ sym c.step.ensures ∙ c.in-None.is))
     in
     record { answer = whole.answer; output = search (rules, whole.output) }
 
