@@ -13,8 +13,8 @@ pub struct Span {
     pub len: usize,
 }
 
-// The bytes of a span: those very bytes of s, or the empty part where any of it lies outside. A range, as `place` has it: of what
-// `get` hands out it is not known where it lies.
+// The bytes of a span: those very bytes of s, or the empty part where any of it lies outside. By a range:
+// clause `place` says where they lie, which of what `get` hands out is not known.
 #[tactic(auto, unfolding(crate::specs::Parts::part_of, crate::specs::Parts::start_of))]
 pub fn part(s: &[u8], span: Span) -> &[u8]
     ensures bytes { result.now ≡ part_of s.now span.at span.len }
