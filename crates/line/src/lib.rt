@@ -41,23 +41,11 @@ pub trait Text {
     }
 }
 
-// Lent bytes, and how many of them are text.
+// Lent bytes, of which the first `len` are text so far.
+#[derive(Drop)]
 pub struct Lent<'a> {
-    bytes: &'a mut [u8],
-    len: usize,
-}
-
-impl<'a> Lent<'a> {
-    ghost use Rattle.std.specs.Prelude.{◌≡◌};
-
-    // No text yet.
-    pub fn new(bytes: &'a mut [u8]) -> Lent<'a>
-        ensures bytes { result.bytes.now ≡ bytes.old }
-        ensures lender { result.bytes.ghost_name ≡ bytes.entry.ghost_name }
-        ensures len { result.len ≡ 0 }
-    {
-        Lent { bytes, len: 0 }
-    }
+    pub bytes: &'a mut [u8],
+    pub len: usize,
 }
 
 impl Text for Lent<'_> {
@@ -116,10 +104,11 @@ impl Text for Line {
     ghost lender = { λ t. 0 };
 
     fn text(&mut self, s: &[u8]) {
-        if s.len() <= ROOM - self.len {
-            let end = self.len + s.len();
-            wire::copy_into(&mut self.bytes[self.len..end], s);
-            self.len = end;
-        }
+        let mut lent = Lent {
+            bytes: &mut self.bytes,
+            len: self.len,
+        };
+        lent.text(s);
+        self.len = lent.len;
     }
 }

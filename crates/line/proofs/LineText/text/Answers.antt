@@ -1,10 +1,9 @@
--- `text`, in a line: the piece goes into the part behind the text, where that has room.
-use Rattle.lemmas.proofs.Basics.{arith, sym}
-use Rattle.line.proofs.Lines.{put_filled, put_out}
+-- `text`, in a line: its bytes are lent, and the text stays inside them.
+use Rattle.lemmas.proofs.Basics.{◌≡◌, arith, ap, length, rules}
+use Rattle.line.proofs.Lines.{len-put}
 use Rattle.line.proofs.LineText.text.Goals as goal
 
-pub returns-then-s-self-clause-put : goal.returns-then-s-self-clause-put
-returns-then-s-self-clause-put c = put_filled _ _ _ (omega arith) c.copy_into.ensures
-
-pub returns-else-s-self-clause-put : goal.returns-else-s-self-clause-put
-returns-else-s-self-clause-put c = sym (put_out _ _ _ (omega arith))
+pub invariant_of-self : goal.invariant_of-self
+invariant_of-self c =
+    let size : length c.args.self.now.bytes ≡ 256 = search rules in
+    record { in_room = omega (arith, ap (λ b. b.len) c.text.ensures.put, len-put c.args.self.now.bytes c.args.s.now c.args.self.now.len (omega (arith, c.args.self.now.in_room))) }
