@@ -1,12 +1,15 @@
 -- `total_line`: each piece is put behind those before it, and they fit.
-use Rattle.line.specs.Text.{laid}
+use Rattle.lemmas.proofs.Basics.{◌≡◌, ap, ◌∙◌, rules}
+use Rattle.line.specs.Text.{buffer, put_all}
+use Rattle.line.proofs.Lines.{text_in, put-laid}
 use Rattle.report.specs.Lines.{total_words}
 use Rattle.report.proofs.Lines.{total-laid}
 use Rattle.report.proofs.total_line.Goals as goal
 
 pub returns : goal.returns
-unfolding laid total_words
+unfolding put_all total_words
 returns c =
-    rw
-    (c.text-4.ensures, c.number-3.ensures, c.text-3.ensures, c.number-2.ensures, c.text-2.ensures, c.number.ensures, c.text.ensures, c.new.ensures)
-    (total-laid _)
+    let line = c.text-4.new.self in
+    let start = c.new-line.result in
+    let placed : buffer line.bytes line.len ≡ put_all (buffer start.bytes start.len) (total_words c.args.tally) = cc in
+    ap text_in placed ∙ put-laid (total_words c.args.tally) start.bytes start.len (search rules) ∙ rw c.new-line.ensures (total-laid _)
