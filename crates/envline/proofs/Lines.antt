@@ -1,5 +1,5 @@
 -- An envelope's words and the newline fit in a line, and so come out joined.
-use Rattle.lemmas.proofs.Basics.{◌≤◌, arith, [], ◌∷◌, ◌++◌, ◌≡◌, ◌∙◌, length}
+use Rattle.lemmas.proofs.Basics.{◌≤◌, arith, [], ◌∷◌, ◌++◌, ◌≡◌, length}
 use Rattle.refusal.specs.Number.{number_of}
 use Rattle.wire.specs.Parts.{joined}
 use Rattle.wire.proofs.Writing.{length-joined}
@@ -8,9 +8,9 @@ use Rattle.reach.specs.Reaches.{keys_reach, reach_total}
 use Rattle.envelope.specs.declared.EnvelopeRead.{EnvelopeRead}
 use Rattle.envelope.specs.declared.EnvelopeRead.TheVariants.{Accepted, Refused}
 use Rattle.envelope.specs.Reading.{form_of}
-use Rattle.line.specs.Text.{room, newline, behind, laid}
+use Rattle.line.specs.Text.{room, newline, laid}
 use Rattle.line.proofs.Decimals.{length_decimal}
-use Rattle.line.proofs.Lines.{fits-joined, laid_next}
+use Rattle.line.proofs.Lines.{fits-joined}
 use Rattle.words.specs.Words.{identifier_words, refused_words}
 use Rattle.words.proofs.Lengths.{length_form}
 use Rattle.envline.specs.Line.{envelope_words, line_words, line_of}
@@ -23,6 +23,6 @@ fits (Accepted e) =
     (omega (arith, length_decimal 20 at.l0.0, length_decimal 20 at.l1.0, length_decimal 20 at.l2.0, length_form (form_of e), length_decimal 20 (reach_total (keys_reach (keys_of (form_of e)) at))))
 fits (Refused r) = rw length-joined (omega (arith, length_decimal 20 (number_of r)))
 
-pub ended : (r : EnvelopeRead) → behind (laid [] (line_words r)) newline ≡ line_of r
+pub ended : (r : EnvelopeRead) → laid [] (line_words r ++ (newline ∷ [])) ≡ line_of r
 unfolding line_of
-ended r = laid_next [] (line_words r) newline ∙ fits-joined [] (line_words r ++ (newline ∷ [])) (fits r)
+ended r = fits-joined [] (line_words r ++ (newline ∷ [])) (fits r)

@@ -113,9 +113,3 @@ fits-joined text (piece ∷ pieces) h =
     let size = length-append (text ++ piece) (joined pieces) in
     let fits : length (text ++ piece ++ joined pieces) ≤ room = rw next at h in
     rw (next, behind_in text piece (omega (arith, length-append text piece))) (fits-joined (text ++ piece) pieces fits)
-
--- One piece more behind pieces.
-pub laid_next : (text : List ℕ) (pieces : List (List ℕ)) (piece : List ℕ) → behind (laid text pieces) piece ≡ laid text (pieces ++ (piece ∷ []))
-unfolding laid
-laid_next text [] piece = refl
-laid_next text (first ∷ pieces) piece = laid_next (behind text first) pieces piece
