@@ -59,7 +59,7 @@ impl Text for Lent<'_> {
         if self.len <= self.bytes.len() {
             if s.len() <= self.bytes.len() - self.len {
                 let end = self.len + s.len();
-                wire::copy_into(&mut self.bytes[self.len..end], s);
+                self.bytes[self.len..end].copy_from_slice(s);
                 self.len = end;
             }
         }

@@ -218,29 +218,21 @@ fn put_answer<T: Text>(out: &mut T, answer: Answer)
     ensures put { T.buffer out.new ≡ put_all (T.buffer out.old) (answer_words answer) }
     ensures lender { T.lender out.new ≡ T.lender out.old }
 {
-    match answer {
-        Answer::Granted { at, form, row } => {
-            put_granted(out, at, form);
-            out.text(b" ROW ");
-            out.number(row as u64);
-        }
-        Answer::Create { at, form } => {
-            put_granted(out, at, form);
-            out.text(b" CREATE");
-        }
-        Answer::Refused(refusal) => words::refused(out, refusal),
-    }
-}
-
-// The identifier and the form.
-#[tactic(auto, unfolding(line::specs::Text::put_all, words::specs::Words::identifier_words))]
-fn put_granted<T: Text>(out: &mut T, at: Gkid, form: Form)
-    ensures put { T.buffer out.new ≡ put_all (T.buffer out.old) (identifier_words at ++ (space ∷ form_word form ∷ [])) }
-    ensures lender { T.lender out.new ≡ T.lender out.old }
-{
+    let (at, form, row) = match answer {
+        Answer::Granted { at, form, row } => (at, form, Some(row)),
+        Answer::Create { at, form } => (at, form, None),
+        Answer::Refused(refusal) => return words::refused(out, refusal),
+    };
     words::identifier(out, at);
     out.text(b" ");
     words::form(out, form);
+    match row {
+        Some(row) => {
+            out.text(b" ROW ");
+            out.number(row as u64);
+        }
+        None => out.text(b" CREATE"),
+    }
 }
 
 // The total's line.
