@@ -2,20 +2,17 @@
 // by value: from record to record (`step`), and from chunk to chunk of a trace of any length (`replay`).
 #![tactic(auto)]
 
-ghost use Rattle.std.specs.Prelude.{◌≡◌, [], ◌∷◌, ◌++◌, min, eqb, length};
+ghost use Rattle.std.specs.Prelude.{◌≡◌, min, eqb, length};
 ghost use Rattle.wire.specs.Parts.{onto};
 ghost use Rattle.records.specs.Writing.{output_of};
 ghost use Rattle.getkey.specs.Deciding.{answer_number};
 ghost use Rattle.trace.specs.Reading.{record_length};
-ghost use Rattle.line.specs.Text.{text_of, space, put_all};
-ghost use Rattle.words.specs.Words.{form_word, identifier_words};
+ghost use Rattle.line.specs.Text.{text_of, put_all};
 ghost use Rattle.report.specs.Records.{records_of, has_record, answered, clock_of};
-ghost use Rattle.report.specs.Lines.{answer_words, line_words, total_line, total_written};
+ghost use Rattle.report.specs.Lines.{answer_words, line_words, total_words, total_line, total_written};
 ghost use Rattle.report.specs.Replaying.{start, step_of, replay_of, progress_of};
 
 use getkey::{Answer, decide_by_verdict};
-use gkid::Gkid;
-use keys::Form;
 use line::{Lent, Line, Text};
 use records::Written;
 use refusal::Refusal;
@@ -236,27 +233,36 @@ fn put_answer<T: Text>(out: &mut T, answer: Answer)
 }
 
 // The total's line.
-#[tactic(auto, unfolding(line::specs::Text::put_all, crate::specs::Lines::total_words))]
 pub fn total_line(tally: Tally) -> Line
     ensures { text_of result ≡ total_line tally }
 {
     let mut line = Line::new();
-    line.text(b"TOTAL ");
-    line.number(tally.accepted);
-    line.text(b" ");
-    line.number(tally.refused);
-    line.text(b" ");
-    line.number(tally.earlier);
-    line.text(b"\n");
+    put_counts(&mut line, tally);
     line
 }
 
-// The total's line put at the start of lent bytes: 13 where it does not fit.
+#[tactic(auto, unfolding(line::specs::Text::put_all, crate::specs::Lines::total_words))]
+fn put_counts<T: Text>(out: &mut T, tally: Tally)
+    ensures put { T.buffer out.new ≡ put_all (T.buffer out.old) (total_words tally) }
+    ensures lender { T.lender out.new ≡ T.lender out.old }
+{
+    out.text(b"TOTAL ");
+    out.number(tally.accepted);
+    out.text(b" ");
+    out.number(tally.refused);
+    out.text(b" ");
+    out.number(tally.earlier);
+    out.text(b"\n");
+}
+
+// The total's line put at the start of lent bytes: 13 where it does not fit. The line is made in place, since one that another function
+// hands out is copied.
 pub fn put_total(out: &mut [u8], tally: Tally) -> Written
     ensures answer { result ≡ total_written tally (length out.old) }
     ensures output { out.new ≡ output_of result (total_line tally) out.old }
 {
-    let line = total_line(tally);
+    let mut line = Line::new();
+    put_counts(&mut line, tally);
     let text = line.as_bytes();
     let len = text.len();
     if out.len() < len {
