@@ -5,11 +5,10 @@
 use getkey::{Answer, Rights};
 use gkid::{FileTime, Gkid};
 use keys::Form;
-use line::Line;
+use line::{Line, Text};
 use request::{Request, Root};
 use rootid::RootId;
 use std::io;
-use wire::Span;
 
 const NOW: FileTime = FileTime(1_880_280_000_000_000);
 
@@ -316,7 +315,10 @@ fn described(rt: &impl Print, name: &[u8], descriptor: &[u8], indices: [i32; 3])
     row(&mut table, 0, 1, 3, 4);
     let asked = request(Root::None, indices);
     let answer = getkey::decide(descriptor, Rights::Seed, asked, NOW, &table);
-    print(rt, decided(Line::new().text(name), answer))
+    let mut line = Line::new();
+    line.text(name);
+    decided(&mut line, answer);
+    print(rt, line)
 }
 
 // Each refusal where the next in order applies too.
@@ -329,13 +331,10 @@ fn orders(rt: &impl Print) -> io::Result<()> {
         NOW,
         &short,
     );
-    print(
-        rt,
-        decided(
-            Line::new().text(b"decision: 16 before 14, by verdict: "),
-            refused,
-        ),
-    )?;
+    let mut line = Line::new();
+    line.text(b"decision: 16 before 14, by verdict: ");
+    decided(&mut line, refused);
+    print(rt, line)?;
     asked(rt, b"decision: 14 before 15: ", Root::None, [0, -1, 32])?;
     asked(
         rt,
@@ -419,10 +418,11 @@ fn both_ways(rt: &impl Print, name: &[u8], root: Root, indices: [i32; 3]) -> io:
     let mut table = [0; 32];
     row(&mut table, 0, 1, 3, 4);
     let answer = getkey::decide_by_verdict(true, Rights::Seed, request(root, indices), NOW, &table);
-    print(
-        rt,
-        decided(Line::new().text(name).text(b"by verdict "), answer),
-    )
+    let mut line = Line::new();
+    line.text(name);
+    line.text(b"by verdict ");
+    decided(&mut line, answer);
+    print(rt, line)
 }
 
 // With seed rights, and one row that suits.
@@ -453,31 +453,39 @@ fn answer(
 ) -> io::Result<()> {
     let descriptor = least();
     let answer = getkey::decide(&descriptor, rights, request(root, indices), NOW, table);
-    print(rt, decided(Line::new().text(name), answer))
+    let mut line = Line::new();
+    line.text(name);
+    decided(&mut line, answer);
+    print(rt, line)
 }
 
 // The row or CREATE, or the refusal.
-fn decided(line: Line, answer: Answer) -> Line {
+fn decided(line: &mut Line, answer: Answer) {
     match answer {
-        Answer::Granted { at, form, row } => granted_form(line, at, form)
-            .text(b" ROW ")
-            .number(row as u64),
-        Answer::Create { at, form } => granted_form(line, at, form).text(b" CREATE"),
+        Answer::Granted { at, form, row } => {
+            granted_form(line, at, form);
+            line.text(b" ROW ");
+            line.number(row as u64);
+        }
+        Answer::Create { at, form } => {
+            granted_form(line, at, form);
+            line.text(b" CREATE");
+        }
         Answer::Refused(refusal) => words::refused(line, refusal),
     }
 }
 
 // The identifier, the form, and how many it reaches there.
-fn granted_form(line: Line, at: Gkid, form: Form) -> Line {
-    let reach = reach::form_reach(form, at);
-    let formed = words::form(words::identifier(line, at).text(b" "), form);
-    formed.text(b" ").number(reach.total() as u64)
+fn granted_form(line: &mut Line, at: Gkid, form: Form) {
+    words::identifier(line, at);
+    line.text(b" ");
+    words::form(line, form);
+    line.text(b" ");
+    line.number(reach::form_reach(form, at).total() as u64);
 }
 
 // A finished line, on standard output.
-fn print(rt: &impl Print, line: Line) -> io::Result<()> {
-    let ended = line.text(b"\n");
-    let bytes = ended.bytes;
-    let len = ended.len;
-    rt.write_all(wire::part(&bytes, Span { at: 0, len }))
+fn print(rt: &impl Print, mut line: Line) -> io::Result<()> {
+    line.text(b"\n");
+    rt.write_all(line.as_bytes())
 }
