@@ -3,7 +3,6 @@ use crate::{print, put_sid, reader};
 use cases::FILL;
 use efskey::EfsKeyPart;
 use line::{Line, Text};
-use records::Written;
 use std::io;
 use wire::Span;
 
@@ -144,7 +143,7 @@ fn written(line: &mut Line, out: &mut [u8], room: usize, sid: &[u8], certificate
     if room <= out.len() {
         let answer = efskey::write(&mut out[0..room], sid, certificate);
         words::written(line, answer);
-        if let Written::Length(len) = answer {
+        if let Ok(len) = answer {
             line.text(b" ");
             read_back(line, cases::first(out, len), sid, certificate);
             return kept(line, out, len);

@@ -1,7 +1,7 @@
 // Headers read.
 use crate::{MOST, THREE, front, print, put};
 use line::{Line, Text};
-use segment::{Head, Segment, SegmentRead};
+use segment::{Head, Segment};
 use std::io;
 use wire::Span;
 

@@ -55,11 +55,11 @@ fn last(rt: &impl Print, name: &[u8], index: usize) -> io::Result<()> {
 
 fn size(line: &mut Line, s: &[u8], index: usize) {
     match segment::size(s, index) {
-        SizeRead::Size(bytes) => {
+        Ok(Some(bytes)) => {
             line.text(b"SIZE ");
             line.number(bytes as u64);
         }
-        SizeRead::None => line.text(b"NONE"),
-        SizeRead::Refused(refusal) => words::refused(line, refusal),
+        Ok(None) => line.text(b"NONE"),
+        Err(refusal) => words::refused(line, refusal),
     }
 }

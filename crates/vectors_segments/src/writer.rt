@@ -2,8 +2,7 @@
 use crate::{MOST, THREE, front, print, put, reader};
 use cases::FILL;
 use line::{Line, Text};
-use records::Written;
-use segment::{Head, SegmentRead, SizeRead};
+use segment::{Head, SizeRead};
 use std::io;
 use wire::Span;
 
@@ -173,7 +172,7 @@ fn written(
     if room <= out.len() {
         let answer = segment::write(&mut out[0..room], head, sizes);
         words::written(line, answer);
-        if let Written::Length(len) = answer {
+        if let Ok(len) = answer {
             line.text(b" ");
             reader::read(line, cases::first(out, len));
             return same(line, out, length, fixed, sizes);
@@ -214,22 +213,22 @@ fn rewritten(rt: &impl Print, name: &[u8], len: u32) -> io::Result<()> {
 
 fn rewrite(line: &mut Line, s: &[u8]) {
     match segment::read(s) {
-        SegmentRead::Accepted(segment) => {
+        Ok(segment) => {
             let mut out = [FILL; 36];
             let sizes = [size_at(s, 0), size_at(s, 1)];
             let answer = segment::write(&mut out, segment.head, &sizes);
             words::written(line, answer);
             compared(line, &out, s);
         }
-        SegmentRead::Refused(refusal) => words::refused(line, refusal),
+        Err(refusal) => words::refused(line, refusal),
     }
 }
 
 fn size_at(s: &[u8], index: usize) -> u32 {
     match segment::size(s, index) {
-        SizeRead::Size(bytes) => bytes,
-        SizeRead::None => 0,
-        SizeRead::Refused(_) => 0,
+        Ok(Some(bytes)) => bytes,
+        Ok(None) => 0,
+        Err(_) => 0,
     }
 }
 
