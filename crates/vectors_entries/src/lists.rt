@@ -2,9 +2,8 @@
 use crate::{entries, print};
 use keyentry::EntryPart;
 use keylist::walk::Walk;
-use keylist::{ListRead, Place, Step};
+use keylist::{ListRefusal, Place, Step};
 use line::Line;
-use refusal::Refusal;
 use std::io;
 
 // The head of a sound entry of 25 bytes, whose item of 4 is at 20 and whose FEK of 1 is at 24.
@@ -145,15 +144,15 @@ fn list(
 fn judged(line: Line, list: &[u8]) -> Line {
     match keylist::judge(list) {
         Ok(n) => line.text(b"COUNT ").number(n as u64),
-        ErrAt(refusal, index) => refused(line, refusal, index),
+        Err(refusal) => refused(line, refusal),
     }
 }
 
 // A refusal, and the index of the entry that it is given for.
-fn refused(line: Line, refusal: Refusal, index: u32) -> Line {
-    words::refused(line, refusal)
+fn refused(line: Line, refused: ListRefusal) -> Line {
+    words::refused(line, refused.refusal)
         .text(b" INDEX ")
-        .number(index as u64)
+        .number(refused.index as u64)
 }
 
 fn walks(rt: &impl Print) -> io::Result<()> {
@@ -253,7 +252,7 @@ fn found(line: Line, step: Step) -> Line {
             entries::shown(at.text(b" "), entry)
         }
         Ok(None) => line.text(b"END"),
-        ErrAt(refusal, index) => refused(line, refusal, index),
+        Err(refusal) => refused(line, refusal),
     }
 }
 

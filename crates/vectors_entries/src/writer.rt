@@ -3,7 +3,6 @@ use crate::{entries, print};
 use cases::FILL;
 use keyentry::EntryPart;
 use line::Line;
-use records::Written;
 use std::io;
 
 pub fn run(rt: &impl Print) -> io::Result<()> {
