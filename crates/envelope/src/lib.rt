@@ -3,7 +3,7 @@
 
 ghost use Rattle.std.specs.Prelude.{◌≡◌, ◌++◌, ◌+◌, ◌≤◌, min, length};
 ghost use Rattle.refusal.specs.Chain.{first_of};
-ghost use Rattle.wire.specs.Parts.{part_of, onto, joined};
+ghost use Rattle.wire.specs.Parts.{onto, joined};
 ghost use Rattle.records.specs.Writing.{output_of};
 ghost use Rattle.keys.specs.KeyRule.{key_checks};
 ghost use Rattle.keys.specs.Forms.{keys_of};
@@ -13,13 +13,13 @@ ghost use Rattle.envelope.specs.Writing.{given, envelope_length, head_pieces, en
 
 use gkid::{Gkid, L0, L1, L2};
 use keys::{Form, SeedKeys};
-use records::{LIMIT, Written, grown};
-use refusal::{Outcome, Refusal};
+use records::{LIMIT, grown};
+use refusal::Refusal;
 use rootid::RootId;
 use wire::{Span, copy_into, le32_at, put_le32s};
 
 // The head's values. The private and the public key length have no body.
-#[derive(Clone, Copy)]
+#[derive(Clone, Copy, Debug, PartialEq, Eq)]
 pub struct Head {
     pub version: u32,
     pub flags: u32,
@@ -30,7 +30,7 @@ pub struct Head {
 }
 
 // Where the eight bodies stand, in their order.
-#[derive(Clone, Copy)]
+#[derive(Clone, Copy, Debug, PartialEq, Eq)]
 pub struct Bodies {
     pub kdf: Span,
     pub kdf_parameters: Span,
@@ -43,21 +43,14 @@ pub struct Bodies {
 }
 
 // An accepted envelope: the head's values, and where the bodies stand.
-#[derive(Clone, Copy)]
+#[derive(Clone, Copy, Debug, PartialEq, Eq)]
 pub struct Envelope {
     pub head: Head,
     pub bodies: Bodies,
 }
 
-// What reading an envelope answers.
-#[derive(Clone, Copy)]
-pub enum EnvelopeRead {
-    Accepted(Envelope),
-    Refused(Refusal),
-}
-
 // The parts of an envelope: its bodies.
-#[derive(Clone, Copy)]
+#[derive(Clone, Copy, Debug, PartialEq, Eq)]
 pub enum EnvelopePart {
     Kdf,
     KdfParameters,
@@ -70,7 +63,7 @@ pub enum EnvelopePart {
 }
 
 // The eight body lengths, in the order in which the head has them.
-#[derive(Clone, Copy)]
+#[derive(Clone, Copy, Debug, PartialEq, Eq)]
 struct Lengths {
     kdf: u32,
     kdf_parameters: u32,
@@ -89,18 +82,13 @@ pub fn is_public(flags: u32) -> bool
     flags % 2 == 1
 }
 
-impl EnvelopeRead {
-    // Where a body stands: each body of a refused envelope is empty at 0.
-    pub fn span(self, which: EnvelopePart) -> Span
-        ensures { result ≡ span_of self which }
-    {
-        match self {
-            Ok(envelope) => {
-                let bodies = envelope.bodies;
-                bodies.span(which)
-            }
-            Err(_) => Span { at: 0, len: 0 },
-        }
+// Where a body stands: each body of a refused envelope is empty at 0.
+pub fn span_of(read: Result<Envelope, Refusal>, which: EnvelopePart) -> Span
+    ensures { result ≡ span_of read which }
+{
+    match read {
+        Ok(envelope) => envelope.bodies.span(which),
+        Err(_) => Span { at: 0, len: 0 },
     }
 }
 
@@ -156,35 +144,23 @@ pub fn seed_keys_of(envelope: Envelope) -> SeedKeys
 }
 
 // What an envelope shows, or its refusal.
-pub fn read(s: &[u8]) -> EnvelopeRead
+pub fn read(s: &[u8]) -> Result<Envelope, Refusal>
     ensures { result ≡ envelope_of s.now }
 {
-    match judge(s) {
-        Ok(()) => {
-            return Ok(shown(s));
-        }
-        Err(refusal) => {
-            return Err(refusal);
-        }
-    }
+    judge(s)?;
+    Ok(shown(s))
 }
 
 // The checks, in document 01's order.
-fn judge(s: &[u8]) -> Outcome
+fn judge(s: &[u8]) -> Result<(), Refusal>
     ensures { result ≡ first_of (envelope_checks s.now) }
 {
-    match judge_head(s) {
-        Ok(()) => {
-            return judge_layout(s);
-        }
-        Err(refusal) => {
-            return Err(refusal);
-        }
-    }
+    judge_head(s)?;
+    judge_layout(s)
 }
 
 // 1, 2 and 4: what a caller can answer without the reader.
-pub fn judge_head(s: &[u8]) -> Outcome
+pub fn judge_head(s: &[u8]) -> Result<(), Refusal>
     ensures { result ≡ first_of (head_checks s.now) }
 {
     if LIMIT < s.len() {
@@ -200,7 +176,7 @@ pub fn judge_head(s: &[u8]) -> Outcome
 }
 
 // 5, 3, and the rules of the bodies, which are looked at only where indices and lengths are sound.
-fn judge_layout(s: &[u8]) -> Outcome
+fn judge_layout(s: &[u8]) -> Result<(), Refusal>
     ensures { result ≡ first_of (layout_checks s.now) }
 {
     let head = head_of(s);
@@ -212,14 +188,14 @@ fn judge_layout(s: &[u8]) -> Outcome
     if end_of(n) != s.len() {
         return Err(Refusal::LengthsDisagree);
     }
-    match judge_texts(s, bodies_of(n)) {
-        Ok(()) => {
-            return judge_keys(head, n.l1_key as usize, n.l2_key as usize);
-        }
-        Err(refusal) => {
-            return Err(refusal);
-        }
-    }
+    let bodies = bodies_of(n);
+    judge_texts(
+        wire::part(s, bodies.kdf),
+        wire::part(s, bodies.agreement),
+        wire::part(s, bodies.domain),
+        wire::part(s, bodies.forest),
+    )?;
+    judge_keys(head, n.l1_key as usize, n.l2_key as usize)
 }
 
 // Where the last body ends: 80 plus the eight lengths.
@@ -237,23 +213,17 @@ fn end_of(n: Lengths) -> usize
 }
 
 // The rule of a text, for the four texts in body order.
-fn judge_texts(s: &[u8], bodies: Bodies) -> Outcome
-    ensures { result ≡ first_of (four_texts (part_of s.now bodies.kdf.at bodies.kdf.len) (part_of s.now bodies.agreement.at bodies.agreement.len) (part_of s.now bodies.domain.at bodies.domain.len) (part_of s.now bodies.forest.at bodies.forest.len)) }
+fn judge_texts(kdf: &[u8], agreement: &[u8], domain: &[u8], forest: &[u8]) -> Result<(), Refusal>
+    ensures { result ≡ first_of (four_texts kdf.now agreement.now domain.now forest.now) }
 {
-    if let Err(refusal) = text::judge(wire::part(s, bodies.kdf)) {
-        return Err(refusal);
-    }
-    if let Err(refusal) = text::judge(wire::part(s, bodies.agreement)) {
-        return Err(refusal);
-    }
-    if let Err(refusal) = text::judge(wire::part(s, bodies.domain)) {
-        return Err(refusal);
-    }
-    text::judge(wire::part(s, bodies.forest))
+    text::judge(kdf)?;
+    text::judge(agreement)?;
+    text::judge(domain)?;
+    text::judge(forest)
 }
 
 // The key rule, for keys of these lengths.
-fn judge_keys(head: Head, l1_length: usize, l2_length: usize) -> Outcome
+fn judge_keys(head: Head, l1_length: usize, l2_length: usize) -> Result<(), Refusal>
     ensures { result ≡ first_of (key_checks (is_public head.flags) head.at head.public_length l1_length l2_length) }
 {
     let at = head.at;
@@ -361,7 +331,7 @@ pub fn part(s: &[u8], which: EnvelopePart) -> &[u8]
     ensures bytes { result.now ≡ envelope_part s.now which }
     ensures place { (result.ref_ptr.0 ≡ s.entry.ref_ptr.0) × (result.ref_ptr.1 ≡ s.entry.ref_ptr.1 + (envelope_span s.now which).at) }
 {
-    wire::part(s, read(s).span(which))
+    wire::part(s, span_of(read(s), which))
 }
 
 // Writes an envelope: what is given is judged, then 13. A refusal keeps the output's bytes; success keeps those behind the record.
@@ -376,11 +346,11 @@ pub fn write(
     forest: &[u8],
     l1_key: &[u8],
     l2_key: &[u8],
-) -> Written
+) -> Result<usize, Refusal>
     ensures answer { result ≡ envelope_written head (given kdf.now kdf_parameters.now agreement.now agreement_parameters.now domain.now forest.now l1_key.now l2_key.now) (length out.old) }
     ensures output { out.new ≡ output_of result (envelope_bytes head (given kdf.now kdf_parameters.now agreement.now agreement_parameters.now domain.now forest.now l1_key.now l2_key.now)) out.old }
 {
-    if let Err(refusal) = judge_given(
+    judge_given(
         head,
         kdf,
         kdf_parameters,
@@ -390,9 +360,7 @@ pub fn write(
         forest,
         l1_key,
         l2_key,
-    ) {
-        return Err(refusal);
-    }
+    )?;
     let len = 80
         + kdf.len()
         + kdf_parameters.len()
@@ -431,7 +399,7 @@ fn judge_given(
     forest: &[u8],
     l1_key: &[u8],
     l2_key: &[u8],
-) -> Outcome
+) -> Result<(), Refusal>
     ensures { result ≡ first_of (write_checks head (given kdf.now kdf_parameters.now agreement.now agreement_parameters.now domain.now forest.now l1_key.now l2_key.now)) }
 {
     let first = capped(
@@ -456,11 +424,8 @@ fn judge_given(
     if at.index_above_31() {
         return Err(Refusal::IndexAbove31);
     }
-    text::judge(kdf)
-        .then(text::judge(agreement))
-        .then(text::judge(domain))
-        .then(text::judge(forest))
-        .then(judge_keys(head, l1_key.len(), l2_key.len()))
+    judge_texts(kdf, agreement, domain, forest)?;
+    judge_keys(head, l1_key.len(), l2_key.len())
 }
 
 // A length and four more, or 65,536 where the sum is over the limit.

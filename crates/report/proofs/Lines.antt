@@ -1,15 +1,13 @@
 -- A line fits in its room, and the total's line in a line.
-use Rattle.lemmas.proofs.Basics.{ℕ, ◌≤◌, arith, List, [], ◌≡◌, ◌∙◌, length, take, length-take}
+use Rattle.lemmas.proofs.Basics.{ℕ, ◌≤◌, arith, List, [], ◌≡◌, ap, ◌∙◌, length, take}
 use Rattle.std.specs.Prelude.{Result, Err}
 use Rattle.refusal.specs.declared.Refusal.{Refusal}
 use Rattle.refusal.specs.Number.{number_of}
-use Rattle.wire.specs.Parts.{part_of}
-use Rattle.wire.proofs.Parts.{part_in}
 use Rattle.wire.proofs.Writing.{length-joined}
 use Rattle.tally.specs.declared.Tally.{Tally}
-use Rattle.line.specs.Text.{room, laid}
+use Rattle.line.specs.Text.{room, laid, Buffer, buffer, put_all}
 use Rattle.line.proofs.Decimals.{length_decimal}
-use Rattle.line.proofs.Lines.{fits-joined}
+use Rattle.line.proofs.Lines.{text_in, put-laid, fits-joined}
 use Rattle.words.specs.Words.{identifier_words, refused_words}
 use Rattle.words.proofs.Lengths.{length_form}
 use Rattle.report.specs.Lines.{answer_words, line_words, line_of, total_words, total_line}
@@ -35,8 +33,7 @@ pub total-laid : (t : Tally) → laid [] (total_words t) ≡ total_line t
 unfolding total_line
 total-laid t = fits-joined [] (total_words t) (omega (arith, length-total t))
 
--- The total's line, as the part of a line's bytes that is its text.
-pub total_part : (t : Tally) (bytes : List ℕ) (len : ℕ) → length bytes ≡ room → take len bytes ≡ total_line t → part_of bytes 0 len ≡ total_line t
-total_part t bytes len long text =
-    let short : length (take len bytes) ≤ line_room = rw text (length-total t) in
-    part_in bytes 0 len (omega (arith, length-take len bytes)) ∙ text
+-- They are the text of a line in which they were put behind no text.
+pub total-put : (t : Tally) (bytes : List ℕ) (len : ℕ) {b : Buffer} → length bytes ≡ room → take len bytes ≡ [] → b ≡ put_all (buffer bytes len) (total_words t)
+    → text_in b ≡ total_line t
+total-put t bytes len long empty put = ap text_in put ∙ put-laid (total_words t) bytes len long ∙ rw empty (total-laid t)

@@ -2,27 +2,22 @@
 // by value: from record to record (`step`), and from chunk to chunk of a trace of any length (`replay`).
 #![tactic(auto)]
 
-ghost use Rattle.std.specs.Prelude.{◌≡◌, [], ◌∷◌, ◌++◌, min, eqb, length};
+ghost use Rattle.std.specs.Prelude.{◌≡◌, min, eqb, length};
 ghost use Rattle.wire.specs.Parts.{onto};
 ghost use Rattle.records.specs.Writing.{output_of};
 ghost use Rattle.getkey.specs.Deciding.{answer_number};
 ghost use Rattle.trace.specs.Reading.{record_length};
-ghost use Rattle.line.specs.Text.{text_of, space, buffer, put_all};
-ghost use Rattle.words.specs.Words.{form_word, identifier_words};
+ghost use Rattle.line.specs.Text.{text_of, put_all};
 ghost use Rattle.report.specs.Records.{records_of, has_record, answered, clock_of};
-ghost use Rattle.report.specs.Lines.{answer_words, line_words, total_line, total_written};
+ghost use Rattle.report.specs.Lines.{answer_words, line_words, total_words, total_line, total_written};
 ghost use Rattle.report.specs.Replaying.{start, step_of, replay_of, progress_of};
 
 use getkey::{Answer, decide_by_verdict};
-use gkid::Gkid;
-use keys::Form;
-use line::{Line, put_number, put_text};
+use line::{Lent, Line, Text};
 use records::Written;
 use refusal::Refusal;
 use tally::{Clock, Counted, Merged, Tally};
 use trace::RecordRead;
-use wire::Span;
-use words::{put_form, put_identifier, put_refused};
 
 // The room that a line is sure to fit in.
 pub const LINE: usize = 128;
@@ -148,15 +143,15 @@ pub fn replay(out: &mut [u8], state: State, table: &[u8], chunk: &[u8], ends: bo
     ensures answer { result ≡ progress_of (length chunk.now) (replay_of table.now state (records_of ends chunk.now) (length out.old)) }
     ensures output { out.new ≡ onto (replay_of table.now state (records_of ends chunk.now) (length out.old)).text out.old }
 {
+    let mut text = Lent { bytes: out, len: 0 };
     let mut present = state;
     let mut left = chunk;
-    let mut written = 0;
     while has_record(left.len(), ends) {
-        if out.len() - written < LINE {
+        if text.bytes.len() - text.len < LINE {
             return Progress {
                 stopped: Stopped::Room,
                 used: chunk.len() - left.len(),
-                written,
+                written: text.len,
                 state: present,
             };
         }
@@ -167,7 +162,7 @@ pub fn replay(out: &mut [u8], state: State, table: &[u8], chunk: &[u8], ends: bo
                 answer,
                 state,
             } => {
-                written = put_line(out, written, number, answer);
+                put_line(&mut text, number, answer);
                 present = state;
                 left = &left[size..];
             }
@@ -175,7 +170,7 @@ pub fn replay(out: &mut [u8], state: State, table: &[u8], chunk: &[u8], ends: bo
                 return Progress {
                     stopped: Stopped::Full,
                     used: chunk.len() - left.len(),
-                    written,
+                    written: text.len,
                     state: present,
                 };
             }
@@ -184,7 +179,7 @@ pub fn replay(out: &mut [u8], state: State, table: &[u8], chunk: &[u8], ends: bo
     Progress {
         stopped: Stopped::Records,
         used: chunk.len() - left.len(),
-        written,
+        written: text.len,
         state: present,
     }
 }
@@ -203,70 +198,72 @@ fn record_size(len: usize) -> usize
     if len < trace::LEN { len } else { trace::LEN }
 }
 
-// A line put behind the text in lent bytes.
-pub fn put_line(out: &mut [u8], len: usize, number: u64, answer: Answer) -> usize
-    ensures { buffer out.new result ≡ put_all (buffer out.old len) (line_words number answer) }
+// A line put behind the text.
+#[tactic(auto, unfolding(line::specs::Text::put_all, crate::specs::Lines::line_words))]
+pub fn put_line<T: Text>(out: &mut T, number: u64, answer: Answer)
+    ensures put { T.buffer out.new ≡ put_all (T.buffer out.old) (line_words number answer) }
+    ensures lender { T.lender out.new ≡ T.lender out.old }
 {
-    let numbered = put_number(out, len, number);
-    let spaced = put_text(out, numbered, b" ");
-    let told = put_answer(out, spaced, answer);
-    put_text(out, told, b"\n")
+    out.number(number);
+    out.text(b" ");
+    put_answer(out, answer);
+    out.text(b"\n");
 }
 
-fn put_answer(out: &mut [u8], len: usize, answer: Answer) -> usize
-    ensures { buffer out.new result ≡ put_all (buffer out.old len) (answer_words answer) }
+#[tactic(auto, unfolding(line::specs::Text::put_all, words::specs::Words::identifier_words, crate::specs::Lines::answer_words))]
+fn put_answer<T: Text>(out: &mut T, answer: Answer)
+    ensures put { T.buffer out.new ≡ put_all (T.buffer out.old) (answer_words answer) }
+    ensures lender { T.lender out.new ≡ T.lender out.old }
 {
-    match answer {
-        OkRow { at, form, row } => {
-            let granted = put_granted(out, len, at, form);
-            let word = put_text(out, granted, b" ROW ");
-            put_number(out, word, row as u64)
+    let (at, form, row) = match answer {
+        OkRow { at, form, row } => (at, form, Some(row)),
+        OkCreate { at, form } => (at, form, None),
+        Err(refusal) => return words::refused(out, refusal),
+    };
+    words::identifier(out, at);
+    out.text(b" ");
+    words::form(out, form);
+    match row {
+        Some(row) => {
+            out.text(b" ROW ");
+            out.number(row as u64);
         }
-        OkCreate { at, form } => {
-            let granted = put_granted(out, len, at, form);
-            put_text(out, granted, b" CREATE")
-        }
-        Err(refusal) => put_refused(out, len, refusal),
+        None => out.text(b" CREATE"),
     }
-}
-
-// The identifier and the form.
-fn put_granted(out: &mut [u8], len: usize, at: Gkid, form: Form) -> usize
-    ensures { buffer out.new result ≡ put_all (buffer out.old len) (identifier_words at ++ (space ∷ form_word form ∷ [])) }
-{
-    let identified = put_identifier(out, len, at);
-    let spaced = put_text(out, identified, b" ");
-    put_form(out, spaced, form)
 }
 
 // The total's line.
 pub fn total_line(tally: Tally) -> Line
     ensures { text_of result ≡ total_line tally }
 {
-    Line::new()
-        .text(b"TOTAL ")
-        .number(tally.accepted)
-        .text(b" ")
-        .number(tally.refused)
-        .text(b" ")
-        .number(tally.earlier)
-        .text(b"\n")
+    let mut line = Line::new();
+    put_counts(&mut line, tally);
+    line
 }
 
-// The total's line put at the start of lent bytes: 13 where it does not fit.
+#[tactic(auto, unfolding(line::specs::Text::put_all, crate::specs::Lines::total_words))]
+fn put_counts<T: Text>(out: &mut T, tally: Tally)
+    ensures put { T.buffer out.new ≡ put_all (T.buffer out.old) (total_words tally) }
+    ensures lender { T.lender out.new ≡ T.lender out.old }
+{
+    out.text(b"TOTAL ");
+    out.number(tally.accepted);
+    out.text(b" ");
+    out.number(tally.refused);
+    out.text(b" ");
+    out.number(tally.earlier);
+    out.text(b"\n");
+}
+
+// The total's line put at the start of lent bytes: 13 where it does not fit. The line is made in place, since one that another function
+// hands out is copied.
 pub fn put_total(out: &mut [u8], tally: Tally) -> Written
     ensures answer { result ≡ total_written tally (length out.old) }
     ensures output { out.new ≡ output_of result (total_line tally) out.old }
 {
-    let line = total_line(tally);
-    let bytes = line.bytes;
-    let text = wire::part(
-        &bytes,
-        Span {
-            at: 0,
-            len: line.len,
-        },
-    );
+    let mut line = Line::new();
+    put_counts(&mut line, tally);
+    let text = line.as_bytes();
     let len = text.len();
     if out.len() < len {
         return Err(Refusal::NoRoom);
