@@ -1,6 +1,6 @@
--- `to_tally`: the clocks are told.
+-- `TallyNumbers::from`: the clocks are told.
 use Rattle.face_traces.specs.Totals.{clocks_code, first_clock, last_clock, tally_shown}
-use Rattle.face_traces.proofs.to_tally.Goals as goal
+use Rattle.face_traces.proofs.TallyNumbersFromTally.from.Goals as goal
 
 pub returns-in-None : goal.returns-in-None
 unfolding tally_shown clocks_code first_clock last_clock
