@@ -1,6 +1,6 @@
 -- Document 02, No. 7: what C is shown of a replay and hands in again is where the replay stands.
 use Rattle.lemmas.proofs.Basics.{◌≡◌, refl}
-use Rattle.std.specs.Prelude.{Option, None}
+use Rattle.std.specs.Prelude.{Option, Some, None}
 use Rattle.tally.specs.declared.Ends.{Ends}
 use Rattle.tally.specs.declared.Tally.{Tally}
 use Rattle.report.specs.declared.State.{State}
@@ -10,7 +10,7 @@ use Rattle.face_traces.specs.Replays.{state_from, state_shown}
 clocks_again : (cs : Option Ends) → clocks_from (clocks_code cs) (first_clock cs) (last_clock cs) ≡ cs
 unfolding clocks_code first_clock last_clock
 clocks_again None = refl
-clocks_again (SomeEnds first last) = refl
+clocks_again (Some ends) = refl
 
 pub tally_again : (t : Tally) → tally_from (tally_shown t) ≡ t
 unfolding tally_shown

@@ -1,5 +1,5 @@
 -- Document 02, No. 7, as C has its answers: where a replay stands, as C hands it in and is shown it, one record replayed, and a chunk.
-use Rattle.std.specs.Prelude.{ℕ, Option, None}
+use Rattle.std.specs.Prelude.{ℕ, Option, Some, None}
 use Rattle.report.specs.declared.Stepped.{Stepped}
 use Rattle.report.specs.declared.State.{State}
 use Rattle.report.specs.declared.Stopped.{Stopped}
@@ -25,7 +25,7 @@ no_decision = record { refusal = 0; granted = 0; form = 0; at = no_identifier; r
 
 -- the answer, its number and the next state; where a count does not fit, number 0 and the state asked with
 unfoldable pub line_answer : State → Option Stepped → ReplayLine
-line_answer st (SomeLine number answer next) = record { answer = decision_answer answer; number = number; state = state_shown next }
+line_answer st (Some stepped) = record { answer = decision_answer stepped.answer; number = stepped.number; state = state_shown stepped.state }
 line_answer st None = record { answer = no_decision; number = 0; state = state_shown st }
 
 unfoldable pub stopped_code : Stopped → ℕ

@@ -7,7 +7,7 @@ use Rattle.face_traces.specs.declared.MergeAnswer.{MergeAnswer}
 
 -- a code that is not 1 is none, whatever first and last are
 abbrev pub clocks_from : ℕ → ℕ → ℕ → Option Ends
-clocks_from code first last = cond (eqb code 1) (SomeEnds (record { 0 = first }) (record { 0 = last })) None
+clocks_from code first last = cond (eqb code 1) (Some (record { first = record { 0 = first }; last = record { 0 = last } })) None
 
 abbrev pub tally_from : TallyNumbers → Tally
 tally_from t = record { accepted = t.accepted; refused = t.refused; earlier = t.earlier; clocks = clocks_from t.clocks t.first t.last }
@@ -15,16 +15,16 @@ tally_from t = record { accepted = t.accepted; refused = t.refused; earlier = t.
 -- 1 where there are clocks
 unfoldable pub clocks_code : Option Ends → ℕ
 clocks_code None = 0
-clocks_code (SomeEnds first last) = 1
+clocks_code (Some ends) = 1
 
 -- 0 where there are none
 unfoldable pub first_clock : Option Ends → ℕ
 first_clock None = 0
-first_clock (SomeEnds first last) = first.0
+first_clock (Some ends) = ends.first.0
 
 unfoldable pub last_clock : Option Ends → ℕ
 last_clock None = 0
-last_clock (SomeEnds first last) = last.0
+last_clock (Some ends) = ends.last.0
 
 unfoldable pub tally_shown : Tally → TallyNumbers
 tally_shown t =

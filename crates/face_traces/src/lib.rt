@@ -2,23 +2,22 @@
 // as C hands them in and is shown them.
 #![tactic(auto)]
 
-ghost use Rattle.std.specs.Prelude.{◌≡◌};
-ghost use Rattle.trace.specs.declared.RecordRead.TheVariants.{Accepted, Refused};
+ghost use Rattle.std.specs.Prelude.{◌≡◌, Ok, Err};
 ghost use Rattle.face_traces.specs.Records.{trace_answer};
 ghost use Rattle.face_traces.specs.Totals.{clocks_from, tally_from, tally_shown, merge_answer};
 ghost use Rattle.face_traces.specs.Replays.{state_from, state_shown, line_answer, stopped_code, replay_answer};
 
 use face::{Identifier, RootBytes, bool_code};
-use face_decisions::{DecisionAnswer, RequestIndices, decision_answer, rights_code, to_request};
+use face_decisions::{DecisionAnswer, RequestIndices, rights_code};
 use gkid::FileTime;
 use refusal::Refusal;
 use report::{Progress, State, Stepped, Stopped};
-use tally::{Clocks, Merged, Tally};
+use tally::{Ends, Tally};
 use trace::Recorded;
 
 // A recorded request: verdict is 1 for a sound descriptor, rights are 0 none, 1 public, 2 seed.
 #[repr(C)]
-#[derive(Clone, Copy)]
+#[derive(Clone, Copy, Debug, PartialEq, Eq)]
 pub struct TraceAnswer {
     pub refusal: u32,
     pub verdict: u32,
@@ -30,7 +29,7 @@ pub struct TraceAnswer {
 
 // A total: clocks is 1 where first and last are clocks, else there are none.
 #[repr(C)]
-#[derive(Clone, Copy)]
+#[derive(Clone, Copy, Debug, PartialEq, Eq)]
 pub struct TallyNumbers {
     pub accepted: u64,
     pub refused: u64,
@@ -43,7 +42,7 @@ pub struct TallyNumbers {
 
 // Where a replay stands: the number of the next line, and the total so far.
 #[repr(C)]
-#[derive(Clone, Copy)]
+#[derive(Clone, Copy, Debug, PartialEq, Eq)]
 pub struct ReplayState {
     pub next: u64,
     pub tally: TallyNumbers,
@@ -51,7 +50,7 @@ pub struct ReplayState {
 
 // One record replayed: its answer, its number and the next state; number 0 where a count would not fit in 64 bits.
 #[repr(C)]
-#[derive(Clone, Copy)]
+#[derive(Clone, Copy, Debug, PartialEq, Eq)]
 pub struct ReplayLine {
     pub answer: DecisionAnswer,
     pub number: u64,
@@ -60,7 +59,7 @@ pub struct ReplayLine {
 
 // What was replayed of a chunk: stopped is 1 for no further record, 2 for no room, 3 for a count that would not fit in 64 bits.
 #[repr(C)]
-#[derive(Clone, Copy)]
+#[derive(Clone, Copy, Debug, PartialEq, Eq)]
 pub struct ReplayAnswer {
     pub stopped: u32,
     pub reserved: u32,
@@ -71,7 +70,7 @@ pub struct ReplayAnswer {
 
 // Two totals merged: full is 1 where a count would not fit in 64 bits.
 #[repr(C)]
-#[derive(Clone, Copy)]
+#[derive(Clone, Copy, Debug, PartialEq, Eq)]
 pub struct MergeAnswer {
     pub full: u32,
     pub reserved: u32,
@@ -79,72 +78,77 @@ pub struct MergeAnswer {
 }
 
 // Accepted: what the record shows.
-pub fn trace_answer(recorded: Recorded) -> TraceAnswer
-    ensures { result ≡ trace_answer (Accepted recorded) }
-{
-    let rights = recorded.rights;
-    let request = recorded.request;
-    TraceAnswer {
-        refusal: 0,
-        verdict: bool_code(recorded.verdict),
-        rights: rights_code(rights),
-        reserved: 0,
-        clock: recorded.clock.0,
-        request: to_request(request),
+impl From<Recorded> for TraceAnswer {
+    ghost from_gives = { λ recorded answer. answer ≡ trace_answer (Ok recorded) };
+
+    fn from(recorded: Recorded) -> TraceAnswer {
+        TraceAnswer {
+            refusal: 0,
+            verdict: bool_code(recorded.verdict),
+            rights: rights_code(recorded.rights),
+            reserved: 0,
+            clock: recorded.clock.0,
+            request: recorded.request.into(),
+        }
     }
 }
 
 // Refused: the number, and zeros.
-pub fn trace_refused(refusal: Refusal) -> TraceAnswer
-    ensures { result ≡ trace_answer (Refused refusal) }
-{
-    TraceAnswer {
-        refusal: refusal.number(),
-        verdict: 0,
-        rights: 0,
-        reserved: 0,
-        clock: 0,
-        request: RequestIndices {
-            root_given: 0,
-            l0: 0,
-            l1: 0,
-            l2: 0,
-            root: RootBytes { bytes: [0; 16] },
-        },
+impl From<Refusal> for TraceAnswer {
+    ghost from_gives = { λ refusal answer. answer ≡ trace_answer (Err refusal) };
+
+    fn from(refusal: Refusal) -> TraceAnswer {
+        TraceAnswer {
+            refusal: refusal.number(),
+            verdict: 0,
+            rights: 0,
+            reserved: 0,
+            clock: 0,
+            request: RequestIndices {
+                root_given: 0,
+                l0: 0,
+                l1: 0,
+                l2: 0,
+                root: RootBytes { bytes: [0; 16] },
+            },
+        }
     }
 }
 
-pub fn tally_from(numbers: TallyNumbers) -> Tally
-    ensures { result ≡ tally_from numbers }
-{
-    Tally {
-        accepted: numbers.accepted,
-        refused: numbers.refused,
-        earlier: numbers.earlier,
-        clocks: clocks_from(numbers.clocks, numbers.first, numbers.last),
+impl From<TallyNumbers> for Tally {
+    ghost from_gives = { λ numbers tally. tally ≡ tally_from numbers };
+
+    fn from(numbers: TallyNumbers) -> Tally {
+        Tally {
+            accepted: numbers.accepted,
+            refused: numbers.refused,
+            earlier: numbers.earlier,
+            clocks: clocks_from(numbers.clocks, numbers.first, numbers.last),
+        }
     }
 }
 
 // A code that is not 1 is none.
-fn clocks_from(code: u32, first: u64, last: u64) -> Clocks
+fn clocks_from(code: u32, first: u64, last: u64) -> Option<Ends>
     ensures { result ≡ clocks_from code first last }
 {
     if code == 1 {
-        return SomeEnds {
+        return Some(Ends {
             first: FileTime(first),
             last: FileTime(last),
-        };
+        });
     }
     None
 }
 
-pub fn to_tally(tally: Tally) -> TallyNumbers
-    ensures { result ≡ tally_shown tally }
-{
-    let clocks = tally.clocks;
-    match clocks {
-        None => numbers(tally, 0, 0, 0),
-        SomeEnds { first, last } => numbers(tally, 1, first.0, last.0),
+impl From<Tally> for TallyNumbers {
+    ghost from_gives = { λ tally numbers. numbers ≡ tally_shown tally };
+
+    fn from(tally: Tally) -> TallyNumbers {
+        match tally.clocks {
+            None => numbers(tally, 0, 0, 0),
+            Some(ends) => numbers(tally, 1, ends.first.0, ends.last.0),
+        }
     }
 }
 
@@ -163,38 +167,37 @@ fn numbers(tally: Tally, clocks: u32, first: u64, last: u64) -> TallyNumbers
     }
 }
 
-pub fn state_from(state: ReplayState) -> State
-    ensures { result ≡ state_from state }
-{
-    State {
-        next: state.next,
-        tally: tally_from(state.tally),
+impl From<ReplayState> for State {
+    ghost from_gives = { λ shown state. state ≡ state_from shown };
+
+    fn from(state: ReplayState) -> State {
+        State {
+            next: state.next,
+            tally: state.tally.into(),
+        }
     }
 }
 
-pub fn to_state(present: State) -> ReplayState
-    ensures { result ≡ state_shown present }
-{
-    let tally = present.tally;
-    ReplayState {
-        next: present.next,
-        tally: to_tally(tally),
+impl From<State> for ReplayState {
+    ghost from_gives = { λ state shown. shown ≡ state_shown state };
+
+    fn from(state: State) -> ReplayState {
+        ReplayState {
+            next: state.next,
+            tally: state.tally.into(),
+        }
     }
 }
 
 // The next state; or the one asked with, where a count would not fit.
-pub fn line_answer(state: State, stepped: Stepped) -> ReplayLine
+pub fn line_answer(state: State, stepped: Option<Stepped>) -> ReplayLine
     ensures { result ≡ line_answer state stepped }
 {
     match stepped {
-        SomeLine {
-            number,
-            answer,
-            state: next,
-        } => ReplayLine {
-            answer: decision_answer(answer),
-            number,
-            state: to_state(next),
+        Some(stepped) => ReplayLine {
+            answer: stepped.answer.into(),
+            number: stepped.number,
+            state: stepped.state.into(),
         },
         None => ReplayLine {
             answer: DecisionAnswer {
@@ -209,25 +212,26 @@ pub fn line_answer(state: State, stepped: Stepped) -> ReplayLine
                 row: 0,
             },
             number: 0,
-            state: to_state(state),
+            state: state.into(),
         },
     }
 }
 
-pub fn replay_answer(progress: Progress) -> ReplayAnswer
-    ensures { result ≡ replay_answer progress }
-{
-    let stopped = progress.stopped;
-    let state = progress.state;
-    ReplayAnswer {
-        stopped: stopped_code(stopped),
-        reserved: 0,
-        used: progress.used,
-        written: progress.written,
-        state: to_state(state),
+impl From<Progress> for ReplayAnswer {
+    ghost from_gives = { λ progress answer. answer ≡ replay_answer progress };
+
+    fn from(progress: Progress) -> ReplayAnswer {
+        ReplayAnswer {
+            stopped: stopped_code(progress.stopped),
+            reserved: 0,
+            used: progress.used,
+            written: progress.written,
+            state: progress.state.into(),
+        }
     }
 }
 
+// The C interface needs a number, and neither type is of this crate, so that this is no `From`.
 fn stopped_code(stopped: Stopped) -> u32
     ensures { result ≡ stopped_code stopped }
 {
@@ -238,27 +242,29 @@ fn stopped_code(stopped: Stopped) -> u32
     }
 }
 
-pub fn merge_answer(merged: Merged) -> MergeAnswer
-    ensures { result ≡ merge_answer merged }
-{
-    match merged {
-        Some(total) => MergeAnswer {
-            full: 0,
-            reserved: 0,
-            tally: to_tally(total),
-        },
-        None => MergeAnswer {
-            full: 1,
-            reserved: 0,
-            tally: TallyNumbers {
-                accepted: 0,
-                refused: 0,
-                earlier: 0,
-                first: 0,
-                last: 0,
-                clocks: 0,
+impl From<Option<Tally>> for MergeAnswer {
+    ghost from_gives = { λ merged answer. answer ≡ merge_answer merged };
+
+    fn from(merged: Option<Tally>) -> MergeAnswer {
+        match merged {
+            Some(total) => MergeAnswer {
+                full: 0,
                 reserved: 0,
+                tally: total.into(),
             },
-        },
+            None => MergeAnswer {
+                full: 1,
+                reserved: 0,
+                tally: TallyNumbers {
+                    accepted: 0,
+                    refused: 0,
+                    earlier: 0,
+                    first: 0,
+                    last: 0,
+                    clocks: 0,
+                    reserved: 0,
+                },
+            },
+        }
     }
 }

@@ -13,13 +13,12 @@ ghost use Rattle.face_traces.specs.Records.{trace_answer};
 ghost use Rattle.face_traces.specs.Totals.{tally_from, merge_answer};
 ghost use Rattle.face_traces.specs.Replays.{state_from, state_shown, line_answer, replay_answer};
 
-use face::{WrittenAnswer, to_written};
+use face::WrittenAnswer;
 use face_traces::{
     MergeAnswer, ReplayAnswer, ReplayLine, ReplayState, TallyNumbers, TraceAnswer, line_answer,
-    merge_answer, replay_answer, state_from, tally_from, to_state, trace_answer, trace_refused,
 };
 use report::State;
-use trace::RecordRead;
+use tally::Tally;
 
 #[unsafe(no_mangle)]
 pub extern "C" fn gw_trace_read(s: &[u8]) -> TraceAnswer
@@ -27,10 +26,10 @@ pub extern "C" fn gw_trace_read(s: &[u8]) -> TraceAnswer
 {
     match trace::read(s) {
         Ok(recorded) => {
-            return trace_answer(recorded);
+            return TraceAnswer::from(recorded);
         }
         Err(refusal) => {
-            return trace_refused(refusal);
+            return TraceAnswer::from(refusal);
         }
     }
 }
@@ -40,14 +39,14 @@ pub extern "C" fn gw_trace_read(s: &[u8]) -> TraceAnswer
 pub extern "C" fn gw_replay_start() -> ReplayState
     ensures { result ≡ state_shown start }
 {
-    to_state(State::new())
+    State::new().into()
 }
 
 #[unsafe(no_mangle)]
 pub extern "C" fn gw_replay_step(state: ReplayState, table: &[u8], s: &[u8]) -> ReplayLine
     ensures { result ≡ line_answer (state_from state) (step_of table.now (state_from state) s.now) }
 {
-    let present = state_from(state);
+    let present = State::from(state);
     line_answer(present, report::step(present, table, s))
 }
 
@@ -63,7 +62,7 @@ pub extern "C" fn gw_replay(
     ensures answer { result ≡ replay_answer (progress_of (length chunk.now) (replay_of table.now (state_from state) (records_of (eqb ends 1) chunk.now) (length out.old))) }
     ensures output { out.new ≡ onto (replay_of table.now (state_from state) (records_of (eqb ends 1) chunk.now) (length out.old)).text out.old }
 {
-    replay_answer(report::replay(out, state_from(state), table, chunk, ends == 1))
+    report::replay(out, state.into(), table, chunk, ends == 1).into()
 }
 
 // The total's line: 13 where it does not fit.
@@ -72,7 +71,7 @@ pub extern "C" fn gw_replay_total(out: &mut [u8], tally: TallyNumbers) -> Writte
     ensures answer { result ≡ written_answer (total_written (tally_from tally) (length out.old)) }
     ensures output { out.new ≡ output_of (total_written (tally_from tally) (length out.old)) (total_line (tally_from tally)) out.old }
 {
-    to_written(report::put_total(out, tally_from(tally)))
+    report::put_total(out, tally.into()).into()
 }
 
 // The total of a trace, and of the one that follows it.
@@ -80,5 +79,5 @@ pub extern "C" fn gw_replay_total(out: &mut [u8], tally: TallyNumbers) -> Writte
 pub extern "C" fn gw_tally_merge(first: TallyNumbers, second: TallyNumbers) -> MergeAnswer
     ensures { result ≡ merge_answer (merged_of (tally_from first) (tally_from second)) }
 {
-    merge_answer(tally_from(first).merged(tally_from(second)))
+    Tally::from(first).merged(second.into()).into()
 }

@@ -2,10 +2,10 @@
 use Rattle.face_traces.specs.Replays.{line_answer}
 use Rattle.face_traces.proofs.line_answer.Goals as goal
 
-pub returns-in-Line : goal.returns-in-Line
+pub returns-in-Some : goal.returns-in-Some
 unfolding line_answer
-returns-in-Line c = rw (c.in-Line.is, c.to_state.ensures, c.decision_answer.ensures)
+returns-in-Some c = rw (c.in-Some.is, c.into.ensures, c.into-in-Some.ensures)
 
-pub returns-in-Full : goal.returns-in-Full
+pub returns-in-None : goal.returns-in-None
 unfolding line_answer
-returns-in-Full c = rw (c.in-Full.is, c.to_state-in-Full.ensures)
+returns-in-None c = rw (c.in-None.is, c.into-in-None.ensures)

@@ -1,7 +1,0 @@
--- `replay_answer`: the code, and the state as C has it.
-use Rattle.face_traces.specs.Replays.{replay_answer}
-use Rattle.face_traces.proofs.replay_answer.Goals as goal
-
-pub returns : goal.returns
-unfolding replay_answer
-returns c = rw (c.to_state.ensures, c.stopped_code.ensures)

@@ -1,5 +1,0 @@
--- `tally_from`: the clocks as their code says.
-use Rattle.face_traces.proofs.tally_from.Goals as goal
-
-pub returns : goal.returns
-returns c = rw c.clocks_from.ensures
