@@ -21,6 +21,7 @@ pub struct Request {
     pub l2: i32,
 }
 
+// Tests are joined by `|` and `&`, so that they compile without branches.
 impl Request {
     // 14: L0 below -1, or L1 or L2 outside -1..31.
     pub fn out_of_range(self) -> bool

@@ -6,6 +6,7 @@ use getkey::{Granted, Rights};
 use gkid::{FileTime, Gkid};
 use keys::Form;
 use line::{Line, Text};
+use refusal::Refusal;
 use request::Request;
 use rootid::RootId;
 use std::io;
@@ -374,27 +375,13 @@ fn row(table: &mut [u8], place: u32, low: u64, starts: u64, created: u64) {
     }
 }
 
+// The times most significant byte first.
 fn put_row(row: &mut [u8], low: u64, starts: u64, created: u64) {
     if row.len() >= 32 {
         RootId { high: 0, low }.put(&mut row[0..16]);
-        put_time(&mut row[16..24], starts);
-        put_time(&mut row[24..32], created);
+        row[16..24].copy_from_slice(&starts.to_be_bytes());
+        row[24..32].copy_from_slice(&created.to_be_bytes());
     }
-}
-
-// A row's time, most significant byte first.
-fn put_time(dst: &mut [u8], time: u64) {
-    let b = [
-        (time / 256 / 256 / 256 / 256 / 256 / 256 / 256 % 256) as u8,
-        (time / 256 / 256 / 256 / 256 / 256 / 256 % 256) as u8,
-        (time / 256 / 256 / 256 / 256 / 256 % 256) as u8,
-        (time / 256 / 256 / 256 / 256 % 256) as u8,
-        (time / 256 / 256 / 256 % 256) as u8,
-        (time / 256 / 256 % 256) as u8,
-        (time / 256 % 256) as u8,
-        (time % 256) as u8,
-    ];
-    wire::copy_into(dst, &b);
 }
 
 // With seed rights, and one row that suits: by descriptor, then by verdict.
@@ -471,11 +458,8 @@ fn granted_form(line: &mut Line, at: Gkid, form: Form) {
     line.text(b" ");
     words::form(line, form);
     line.text(b" ");
-    let total = match reach::form_reach(form, at) {
-        Ok(reach) => reach.total(),
-        Err(_) => 0,
-    };
-    line.number(total as u64);
+    let total = reach::form_reach(form, at).map_or(0, |reach| reach.total());
+    line.number(u64::from(total));
 }
 
 // A finished line, on standard output.
