@@ -242,7 +242,7 @@ fn told(line: Line, asked: Asked) -> Line {
 
 fn found(line: Line, step: Step) -> Line {
     match step {
-        Ok(Some(found)) => {
+        Step::Entry(found) => {
             let entry = found.entry;
             let at = line
                 .text(b"ENTRY ")
@@ -251,8 +251,8 @@ fn found(line: Line, step: Step) -> Line {
                 .number(found.at as u64);
             entries::shown(at.text(b" "), entry)
         }
-        Ok(None) => line.text(b"END"),
-        Err(refusal) => refused(line, refusal),
+        Step::End => line.text(b"END"),
+        Step::Refused(refusal) => refused(line, refusal),
     }
 }
 
