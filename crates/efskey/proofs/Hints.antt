@@ -1,8 +1,13 @@
 -- Laws of the SID area: zero bytes, one at least, give no hint; a SID does; and where what the area holds stands.
-use Rattle.lemmas.proofs.Basics.{ℕ, ◌≤◌, arith, Bool, true, false, cond, List, ◌≡◌, refl, leb, eqb, length, le-leb, leb-true, eq-eqb, eqb-true}
-use Rattle.std.specs.Prelude.{Option, Some}
+use Rattle.lemmas.proofs.Basics.{ℕ, ◌≤◌, arith, Bool, true, false, cond, ◌&&◌, List, [], ◌∷◌, ◌≡◌, refl, leb, eqb, length, le-leb, leb-true, eq-eqb, ne_eqb, eqb-true, eqb-false}
+use lib.Bits.{bit_or, or_add_and, and_le_l, and_le_r}
+use Rattle.std.specs.Prelude.{Result, Ok, Err}
+use Rattle.refusal.specs.declared.Refusal.{Refusal}
+use Rattle.refusal.specs.declared.Refusal.TheVariants.{MalformedSid}
+use Rattle.refusal.specs.Outcome.{Outcome}
+use Rattle.refusal.specs.Chain.{◌⇒◌, first_of}
 use Rattle.efskey.specs.declared.SidHint.{SidHint}
-use Rattle.lemmas.proofs.Cases.{by_cases, cond_cases, both_true}
+use Rattle.lemmas.proofs.Cases.{by_cases, both_true}
 use Rattle.lemmas.proofs.Counting.{every_all, all_every}
 use Rattle.sid.specs.WellFormed as sid
 use Rattle.efskey.specs.declared.SidHint.TheVariants.{None, Sid, NoHint}
@@ -33,11 +38,21 @@ hint_span_lem offset area = told (eqb offset 0) (is_no_hint area)
     told false true = refl
     told false false = refl
 
--- what an answer says of the area: what it holds passes the check and is the hint; what is malformed does not pass
-abbrev pub Says : ℕ → List ℕ → Option SidHint → Type 0
-Says offset area (Some hint) = (sid_malformed (hint_of offset area) area ≡ false) × (hint ≡ hint_of offset area)
-Says offset area None = sid_malformed (hint_of offset area) area ≡ true
+-- The check of the area, from what judging it answers.
+abbrev pub judged : Result SidHint Refusal → Outcome
+judged (Ok hint) = Ok tt
+judged (Err r) = Err r
 
-pub area_says : (offset : ℕ) (area : List ℕ) → Says offset area (area_of offset area)
-unfolding area_of
-area_says offset area = cond_cases (Says offset area) (sid_malformed (hint_of offset area) area) (λ q. q) (λ q. (q, refl))
+pub area_judged : (offset : ℕ) (area : List ℕ) → first_of ((sid_malformed (hint_of offset area) area ⇒ MalformedSid) ∷ []) ≡ judged (area_of offset area)
+unfolding area_of first_of
+area_judged offset area =
+    elim (sid_malformed (hint_of offset area) area) as (λ m. cond m (Err MalformedSid) (Ok tt) ≡ judged (cond m (Err MalformedSid) (Ok (hint_of offset area)))) [ true ↦ refl | false ↦ refl ]
+
+-- No bit is set of two numbers exactly where none is of either.
+pub or_zero : (a b : ℕ) → eqb (bit_or a b) 0 ≡ eqb a 0 && eqb b 0
+or_zero a b =
+    by_cases (λ t. eqb (bit_or a b) 0 ≡ t && eqb b 0) (eqb a 0)
+    (λ p. by_cases (λ t. eqb (bit_or a b) 0 ≡ t) (eqb b 0)
+    (λ q. eq-eqb (bit_or a b) 0 (omega (arith, or_add_and a b, eqb-true a 0 p, eqb-true b 0 q)))
+    (λ q. ne_eqb (bit_or a b) 0 (λ z. eqb-false b 0 q (omega (arith, or_add_and a b, and_le_l a b)))))
+    (λ p. ne_eqb (bit_or a b) 0 (λ z. eqb-false a 0 p (omega (arith, or_add_and a b, and_le_r a b))))

@@ -9,8 +9,9 @@ use Rattle.wire.specs.Numbers.{le_bytes}
 use Rattle.wire.specs.Parts.{part_of, joined, le32_bytes}
 use Rattle.wire.proofs.Numbers.{le_piece}
 use Rattle.wire.proofs.Parts.{piece_part}
-use Rattle.efskey.specs.Layout.{length1, length2, sid_offset, reserved1, certificate_length, certificate_offset, lengths_disagree, certificate_misplaced, sid_misplaced, gap_without_sid, sid_area, hint_of, sid_malformed}
+use Rattle.efskey.specs.Layout.{length1, length2, sid_offset, reserved1, certificate_length, certificate_offset, lengths_disagree, certificate_misplaced, sid_misplaced, gap_without_sid, sid_area, hint_of, sid_malformed, area_of}
 use Rattle.efskey.specs.Reading.{head_checks, efs_key_checks}
+use Rattle.efskey.proofs.Hints.{judged, area_judged}
 use Rattle.efskey.specs.Writing.{efs_key_length, offset_for, pieces, efs_key_bytes, write_checks}
 
 -- What is written for no SID, or for some bytes, stands where it may.
@@ -102,6 +103,10 @@ module _ (sid certificate : List ℕ) where
 
       ends : certificate_misplaced (28 + length sid) (length certificate) size ≡ false
       ends = false-or (le-ltb (28 + length sid) 28 (omega arith)) (ap not (eq-eqb (4 + (28 + length sid) + length certificate) size (omega arith)))
+
+  -- Behind 1 and 7 the area decides.
+  pub area_decides : size ≤ 65535 → eqb (length certificate) 0 ≡ false → first_of (write_checks sid certificate) ≡ judged (area_of (offset_for (length sid)) sid)
+  area_decides fits some = write_checks_lem ∙ first_next _ _ _ (le-ltb 65535 size fits) ∙ first_next _ _ _ some ∙ area_judged (offset_for (length sid)) sid
 
   -- What is accepted is within the limit.
   pub within_limit : first_of (write_checks sid certificate) ≡ Ok tt → size ≤ 65535

@@ -1,7 +1,9 @@
 -- Document 01, "EfsKey", with No. 2 of document 02: the numbers of the head, the rules that are made of them, and the SID area. Both
 -- offsets count from byte 4; sums are whole numbers.
-use Rattle.std.specs.Prelude.{ℕ, ◌+◌, ◌-◌, Bool, false, not, cond, ◌&&◌, ◌||◌, List, leb, ltb, eqb, length, get_or, Option, Some}
+use Rattle.std.specs.Prelude.{ℕ, ◌+◌, ◌-◌, Bool, false, not, cond, ◌&&◌, ◌||◌, List, leb, ltb, eqb, length, get_or, Result, Ok, Err}
 use Rattle.lemmas.specs.Counting.{every}
+use Rattle.refusal.specs.declared.Refusal.{Refusal}
+use Rattle.refusal.specs.declared.Refusal.TheVariants.{MalformedSid}
 use Rattle.wire.specs.declared.Span.{Span}
 use Rattle.wire.specs.Parts.{part_of, le_at}
 use Rattle.sid.specs.Rule.{is_sid}
@@ -68,9 +70,9 @@ sid_malformed None area = false
 sid_malformed (Sid span) area = not (is_sid area)
 sid_malformed (NoHint span) area = false
 
--- what judging the area answers
-unfoldable pub area_of : ℕ → List ℕ → Option SidHint
-area_of offset area = cond (sid_malformed (hint_of offset area) area) None (Some (hint_of offset area))
+-- what judging the area answers: 12, or what an EfsKey has of a SID
+unfoldable pub area_of : ℕ → List ℕ → Result SidHint Refusal
+area_of offset area = cond (sid_malformed (hint_of offset area) area) (Err MalformedSid) (Ok (hint_of offset area))
 
 -- of a record
 abbrev pub hint_in : List ℕ → SidHint

@@ -9,49 +9,36 @@ ghost use Rattle.efskey.specs.Layout.{lengths_disagree, certificate_misplaced, s
 ghost use Rattle.efskey.specs.Reading.{head_checks, shown_with, efs_key_of, hint_kind, hint_span, span_of, efs_key_span, efs_key_part};
 ghost use Rattle.efskey.specs.Writing.{efs_key_length, offset_for, efs_key_bytes, write_checks, efs_key_written};
 
-use records::{LIMIT, Written, grown};
-use refusal::{Outcome, Refusal};
+use records::{LIMIT, grown};
+use refusal::Refusal;
 use sid::is_sid;
 use wire::{Span, copy_into, le32_at, put_le32s};
 
 // An accepted EfsKey: what it has of a SID, and where the certificate stands, counted from byte 0 of the record.
-#[derive(Clone, Copy)]
+#[derive(Clone, Copy, Debug, PartialEq, Eq)]
 pub struct EfsKey {
     pub sid: SidHint,
     pub certificate: Span,
 }
 
 // What an EfsKey has of a SID, a hint on who made the key: none, one, or zero bytes in its place, which give no hint.
-#[derive(Clone, Copy)]
+#[derive(Clone, Copy, Debug, PartialEq, Eq)]
 pub enum SidHint {
     None,
     Sid(Span),
     NoHint(Span),
 }
 
-// What reading an EfsKey answers.
-#[derive(Clone, Copy)]
-pub enum EfsKeyRead {
-    Accepted(EfsKey),
-    Refused(Refusal),
-}
-
 // The parts of an EfsKey.
-#[derive(Clone, Copy)]
+#[derive(Clone, Copy, Debug, PartialEq, Eq)]
 pub enum EfsKeyPart {
     Sid,
     Certificate,
 }
 
-// What a SID area holds: one of these, or what is none of them.
-#[derive(Clone, Copy)]
-enum SidArea {
-    Holds(SidHint),
-    Malformed,
-}
-
 impl SidHint {
-    // The kind that a host is told.
+    // The kind as a number, which the C interface needs.
+    #[tactic(auto, unfolding(crate::specs::Reading::hint_kind))]
     pub fn kind(self) -> u32
         ensures { result ≡ hint_kind self }
     {
@@ -63,74 +50,76 @@ impl SidHint {
     }
 
     // An absent SID is empty at 0.
+    #[tactic(auto, unfolding(crate::specs::Reading::hint_span))]
     pub fn span(self) -> Span
         ensures { result ≡ hint_span self }
     {
         match self {
             SidHint::None => Span { at: 0, len: 0 },
-            SidHint::Sid(span) => span,
-            SidHint::NoHint(span) => span,
+            SidHint::Sid(span) | SidHint::NoHint(span) => span,
         }
     }
-}
 
-impl SidArea {
-    // What the bytes of the area are, with that SID offset. Zeros are the EfsKey's own: the SID rule stays document 01's, for whoever
-    // else asks it. No bytes are both, as a SID's first is 1; told first, it is spared the pass.
-    fn of(offset: u32, area: &[u8]) -> SidArea
+    // What the bytes of the area are, with that SID offset: 12 if none of these. Zeros are the EfsKey's own: the SID rule stays document
+    // 01's, for whoever else asks it. No bytes are both, as a SID's first is 1; told first, it is spared the pass.
+    #[tactic(auto, using(crate::proofs::Hints::sid_hint, sid::proofs::ExactlyWhen::sid_well_formed), unfolding(crate::specs::Layout::area_of, crate::specs::Layout::hint_of, crate::specs::Layout::sid_malformed))]
+    fn of(offset: u32, area: &[u8]) -> Result<SidHint, Refusal>
         ensures { result ≡ area_of offset area.now }
     {
         if offset == 0 {
-            return Some(SidHint::None);
+            return Ok(SidHint::None);
         }
         let span = Span {
             at: 32,
             len: area.len(),
         };
         if is_sid(area) {
-            return Some(SidHint::Sid(span));
+            return Ok(SidHint::Sid(span));
         }
         if is_no_hint(area) {
-            return Some(SidHint::NoHint(span));
+            return Ok(SidHint::NoHint(span));
         }
-        None
+        Err(Refusal::MalformedSid)
     }
 }
 
-impl EfsKeyRead {
-    // Where a part stands: each part of a refused record, and an absent SID, is empty at 0.
+impl EfsKey {
+    // Where a part stands; an absent SID is empty at 0.
+    #[tactic(auto, unfolding(crate::specs::Reading::span_of))]
     pub fn span(self, which: EfsKeyPart) -> Span
-        ensures { result ≡ span_of self which }
+        ensures { result ≡ span_of (Ok self) which }
     {
-        match self {
-            Ok(key) => {
-                let sid = key.sid;
-                let certificate = key.certificate;
-                match which {
-                    EfsKeyPart::Sid => sid.span(),
-                    EfsKeyPart::Certificate => certificate,
-                }
-            }
-            Err(_) => Span { at: 0, len: 0 },
+        match which {
+            EfsKeyPart::Sid => self.sid.span(),
+            EfsKeyPart::Certificate => self.certificate,
         }
+    }
+}
+
+// Where a part of what was read stands: each part of a refused record, and an absent SID, is empty at 0.
+#[tactic(auto, unfolding(crate::specs::Reading::span_of))]
+pub fn span_of(read: Result<EfsKey, Refusal>, which: EfsKeyPart) -> Span
+    ensures { result ≡ span_of read which }
+{
+    match read {
+        Ok(key) => key.span(which),
+        Err(_) => Span { at: 0, len: 0 },
     }
 }
 
 // What an EfsKey shows, or its refusal. The SID area comes last, and what it holds is both judged and shown.
-pub fn read(s: &[u8]) -> EfsKeyRead
+#[tactic(auto, using(crate::proofs::Reading::head_refused, crate::proofs::Reading::head_accepted))]
+pub fn read(s: &[u8]) -> Result<EfsKey, Refusal>
     ensures { result ≡ efs_key_of s.now }
 {
-    if let Err(refusal) = judge_head(s) {
-        return Err(refusal);
-    }
-    match SidArea::of(le32_at(s, 8), area_in(s)) {
-        Some(sid) => Ok(shown(s, sid)),
-        None => Err(Refusal::MalformedSid),
-    }
+    judge_head(s)?;
+    let sid = SidHint::of(le32_at(s, 8), area_in(s))?;
+    Ok(shown(s, sid))
 }
 
 // The checks before the SID area's, in document 01's order; a number is read just before its check.
-fn judge_head(s: &[u8]) -> Outcome
+#[tactic(auto, unfolding(crate::specs::Reading::head_checks, refusal::specs::Chain::first_of))]
+fn judge_head(s: &[u8]) -> Result<(), Refusal>
     ensures { result ≡ first_of (head_checks s.now) }
 {
     let len = s.len();
@@ -179,45 +168,33 @@ fn is_misplaced(sid: u32, offset: u32, certificate: u32, total: u32) -> bool
 }
 
 // The SID area, from 32 to the certificate.
+#[tactic(auto, unfolding(crate::specs::Layout::sid_area))]
 fn area_in(s: &[u8]) -> &[u8]
     ensures { result.now ≡ sid_area s.now }
 {
     let span = Span {
         at: 32,
-        len: area_length(le32_at(s, 20)),
+        len: (le32_at(s, 20) as usize).saturating_sub(28),
     };
     wire::part(s, span)
 }
 
-// With this certificate offset it has this many bytes.
-fn area_length(offset: u32) -> usize
-    ensures { result ≡ offset - 28 }
-{
-    if offset < 28 {
-        return 0;
-    }
-    offset as usize - 28
-}
-
 // At least one byte, and all of them zero.
+#[tactic(auto, unfolding(crate::specs::Layout::is_no_hint))]
 fn is_no_hint(area: &[u8]) -> bool
     ensures { result ≡ is_no_hint area.now }
 {
-    if area.len() == 0 {
-        return false;
-    }
-    are_zeros(area)
+    !area.is_empty() && are_zeros(area)
 }
 
 // All bytes in one pass: their bits are gathered, and none is set.
+#[tactic(auto, using(crate::proofs::Hints::or_zero), unfolding(crate::specs::Layout::all_zeros, lemmas::specs::Counting::every))]
 fn are_zeros(area: &[u8]) -> bool
     ensures { result ≡ all_zeros area.now }
 {
     let mut any = 0;
-    let mut at = 0;
-    while at < area.len() {
-        any = any | area[at];
-        at += 1;
+    for byte in area {
+        any |= *byte;
     }
     any == 0
 }
@@ -236,22 +213,22 @@ fn shown(s: &[u8], sid: SidHint) -> EfsKey
 }
 
 // The bytes of a part: those very bytes of s, or the empty part on a refusal and for an absent SID.
+#[tactic(auto, using(wire::proofs::Parts::start_in, crate::proofs::Reading::part_inside))]
 pub fn part(s: &[u8], which: EfsKeyPart) -> &[u8]
     ensures bytes { result.now ≡ efs_key_part s.now which }
     ensures place { (result.ref_ptr.0 ≡ s.entry.ref_ptr.0) × (result.ref_ptr.1 ≡ s.entry.ref_ptr.1 + (efs_key_span s.now which).at) }
 {
-    wire::part(s, read(s).span(which))
+    wire::part(s, span_of(read(s), which))
 }
 
 // Writes an EfsKey of a SID, which is empty for none or zeros for no hint, and a certificate: what is given is judged, then 13. A
 // refusal keeps the output's bytes; success keeps those behind the record.
-pub fn write(out: &mut [u8], sid: &[u8], certificate: &[u8]) -> Written
+#[tactic(auto, using(crate::proofs::Writing::within_limit), unfolding(records::specs::Writing::written_of, records::specs::Writing::output_of, refusal::specs::Chain::unless_refused, refusal::specs::Chain::refuse_if))]
+pub fn write(out: &mut [u8], sid: &[u8], certificate: &[u8]) -> Result<usize, Refusal>
     ensures answer { result ≡ efs_key_written sid.now certificate.now (length out.old) }
     ensures output { out.new ≡ output_of result (efs_key_bytes sid.now certificate.now) out.old }
 {
-    if let Err(refusal) = judge_given(sid, certificate) {
-        return Err(refusal);
-    }
+    judge_given(sid, certificate)?;
     let len = 32 + sid.len() + certificate.len();
     if out.len() < len {
         return Err(Refusal::NoRoom);
@@ -261,29 +238,25 @@ pub fn write(out: &mut [u8], sid: &[u8], certificate: &[u8]) -> Written
 }
 
 // What the reader would say of the bytes: of its refusals only 1, 7 and 12 can occur.
-fn judge_given(sid: &[u8], certificate: &[u8]) -> Outcome
+#[tactic(auto, using(crate::proofs::Writing::write_checks_lem, crate::proofs::Writing::area_decides), unfolding(refusal::specs::Chain::first_of))]
+fn judge_given(sid: &[u8], certificate: &[u8]) -> Result<(), Refusal>
     ensures { result ≡ first_of (write_checks sid.now certificate.now) }
 {
     if LIMIT < grown(grown(32, sid.len()), certificate.len()) {
         return Err(Refusal::TooLong);
     }
-    if certificate.len() == 0 {
+    if certificate.is_empty() {
         return Err(Refusal::EmptyItem);
     }
-    match SidArea::of(offset_for(sid.len()), sid) {
-        Some(_) => Ok(()),
-        None => Err(Refusal::MalformedSid),
-    }
+    SidHint::of(offset_for(sid.len()), sid)?;
+    Ok(())
 }
 
 // An empty SID means none: SID offset 0.
 fn offset_for(len: usize) -> u32
     ensures { result ≡ offset_for len }
 {
-    if len == 0 {
-        return 0;
-    }
-    28
+    if len == 0 { 0 } else { 28 }
 }
 
 // The head, and each body into its own part of the output.

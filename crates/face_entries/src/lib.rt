@@ -5,7 +5,7 @@ ghost use Rattle.std.specs.Prelude.{◌≡◌, Ok, Err};
 ghost use Rattle.face_entries.specs.Entries.{algorithm_code, entry_answer};
 ghost use Rattle.face_entries.specs.Lists.{list_answer, step_answer, no_entry};
 
-use face::{Part, to_part};
+use face::Part;
 use keyentry::{Algorithm, Entry};
 use keylist::{Advance, ListRefusal, Place, Step};
 use refusal::Refusal;
@@ -59,8 +59,8 @@ impl From<Entry> for EntryAnswer {
             algorithm: algorithm_code(entry.algorithm()),
             flags: entry.flags,
             reserved: 0,
-            item: to_part(entry.item),
-            fek: to_part(entry.fek),
+            item: Part::from(entry.item),
+            fek: Part::from(entry.fek),
         }
     }
 }
@@ -120,8 +120,8 @@ impl From<Advance> for StepAnswer {
                     next_index: next.index,
                     next_at: next.at,
                     at: found.at,
-                    item: to_part(entry.item),
-                    fek: to_part(entry.fek),
+                    item: Part::from(entry.item),
+                    fek: Part::from(entry.fek),
                 }
             }
             Step::End => no_entry(0, 2, 0, next),

@@ -9,7 +9,7 @@ ghost use Rattle.face.specs.Shapes.{written_answer};
 ghost use Rattle.face_entries.specs.Entries.{entry_answer};
 ghost use Rattle.face_entries.specs.Lists.{list_answer, step_answer};
 
-use face::{WrittenAnswer, to_written};
+use face::WrittenAnswer;
 use face_entries::{EntryAnswer, ListAnswer, StepAnswer};
 use keylist::Place;
 
@@ -38,7 +38,7 @@ pub extern "C" fn gw_entry_write(
     ensures answer { result ≡ written_answer (entry_written flags item.now fek.now (length out.old)) }
     ensures output { out.new ≡ output_of (entry_written flags item.now fek.now (length out.old)) (entry_bytes flags item.now fek.now) out.old }
 {
-    to_written(keyentry::write(out, flags, item, fek))
+    WrittenAnswer::from(keyentry::write(out, flags, item, fek))
 }
 
 #[unsafe(no_mangle)]

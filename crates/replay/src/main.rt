@@ -11,8 +11,6 @@ ghost use Rattle.report.specs.Lines.{lines_from, total_line};
 ghost use Rattle.report.specs.Replaying.{after, report_of};
 ghost use Rattle.replay.specs.Cut.{OnlyLines};
 
-use input::Input;
-use line::ROOM;
 use report::{State, Stopped};
 use std::env::{Env, FillError};
 use std::fmt;
@@ -85,8 +83,8 @@ fn read_table<R: Files>(rt: &R, path: &[u8], table: &mut [u8]) -> Result<usize, 
         return Err(Failure::Table);
     };
     match input::read_all(&mut file, table) {
-        Input::Bytes(len) => Ok(len),
-        Input::Failed => Err(Failure::Table),
+        Ok(len) => Ok(len),
+        Err(_) => Err(Failure::Table),
     }
 }
 
@@ -101,7 +99,7 @@ fn replay_trace<R: Read, W: Write>(from: &mut R, to: &mut W, table: &[u8]) -> Re
     let mut out = [0; 65536];
     let mut state = State::new();
     for _ in 0..u64::MAX {
-        let Input::Bytes(len) = input::read_all(from, &mut chunk) else {
+        let Ok(len) = input::read_all(from, &mut chunk) else {
             return Err(Failure::Read);
         };
         let ends = len < CHUNK;
@@ -155,10 +153,7 @@ fn print_total<W: Write>(to: &mut W, tally: Tally) -> Result<(), Failure>
     ensures written { OnOk result (Appends (W.contents to.old) (W.contents to.new) (total_line tally)) }
     ensures failed { OnErr result (result ≡ Err Failure.Write) }
 {
-    let line = report::total_line(tally);
-    let bytes = line.bytes;
-    let len = line.len.min(ROOM);
-    write(to, &bytes[..len])
+    write(to, report::total_line(tally).as_bytes())
 }
 
 fn write<W: Write>(to: &mut W, bytes: &[u8]) -> Result<(), Failure>

@@ -1,5 +1,6 @@
 -- Laws of root key identifiers: stored and read back, read and stored, and compared.
 use Rattle.lemmas.proofs.Basics.{ℕ, ◌+◌, ◌^◌, ◌≤◌, ◌<◌, arith, true, ◌&&◌, false≢true, List, [], ◌++◌, ◌≡◌, refl, sym, ap, ap₂, ◌∙◌, eqb, length, get_or, take, eq-eqb, eqb-true}
+use mathlib.Core.Bool.{and_comm}
 use Rattle.lemmas.proofs.Cases.{by_cases}
 use Rattle.wire.specs.Numbers.{le_of, le_bytes}
 use Rattle.wire.specs.Parts.{le_at, part_of, joined}
@@ -41,6 +42,11 @@ same_root_lem a b =
     by_cases (λ t. t && eqb a.low b.low ≡ true → a ≡ b) (eqb a.high b.high)
     (λ p q i. record { high = eqb-true a.high b.high p i; low = eqb-true a.low b.low q i })
     (λ p q. absurd (false≢true q))
+
+-- which is what a derived `==` asks
+pub same_halves : (a b : RootId) → same_root a b ≡ eqb a.low b.low && eqb a.high b.high
+unfolding same_root
+same_halves a b = and_comm (eqb a.high b.high) (eqb a.low b.low)
 
 pub root-same : (a : RootId) → same_root a a ≡ true
 unfolding same_root

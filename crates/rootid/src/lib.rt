@@ -7,7 +7,7 @@ ghost use Rattle.wire.specs.Parts.{onto};
 ghost use Rattle.rootid.specs.Root.{root_at, root_bytes, same_root};
 
 // `low` is bytes 0 to 8, `high` is bytes 8 to 16.
-#[derive(Clone, Copy)]
+#[derive(Debug, Clone, Copy, PartialEq, Eq)]
 pub struct RootId {
     pub low: u64,
     pub high: u64,
@@ -15,6 +15,7 @@ pub struct RootId {
 
 impl RootId {
     // The identifier in the 16 bytes from `at` on.
+    #[tactic(auto, unfolding(crate::specs::Root::root_at))]
     pub fn at(s: &[u8], at: usize) -> RootId
         ensures { result ≡ root_at s.now at }
     {
@@ -25,10 +26,11 @@ impl RootId {
         }
     }
 
+    #[tactic(auto, using(crate::proofs::Roots::same_halves))]
     pub fn is(self, other: RootId) -> bool
         ensures { result ≡ same_root self other }
     {
-        self.high == other.high && self.low == other.low
+        self == other
     }
 
     // The 16 bytes, put at the start of a lent part.

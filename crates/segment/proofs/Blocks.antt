@@ -1,6 +1,6 @@
 -- Laws of the blocks: a size read from its own four bytes, one block more that is counted, the count by the sizes as they are asked
 -- for, and what follows the sizes.
-use Rattle.lemmas.proofs.Basics.{ℕ, ◌+◌, ◌-◌, ◌*◌, ◌^◌, ◌≤◌, ◌<◌, arith, add-zero, add-one, Bool, false, cond, List, ◌++◌, ◌≡◌, refl, sym, ap, ap₂, ◌∙◌, ltb, length, take, drop, length-append, lt-ltb, le-ltb, ltb-true}
+use Rattle.lemmas.proofs.Basics.{ℕ, ◌+◌, ◌-◌, ◌*◌, ◌^◌, ◌≤◌, ◌<◌, arith, add-zero, add-one, Bool, true, false, cond, List, ◌++◌, ◌≡◌, refl, sym, ap, ap₂, ◌∙◌, ltb, length, take, drop, length-append, lt-ltb, le-ltb, ltb-true}
 use Rattle.std.specs.Prelude.{Result, Ok, Err, Option, None, Some}
 use Rattle.refusal.specs.declared.Refusal.{Refusal}
 use Rattle.lemmas.proofs.Cases.{by_cases}
@@ -35,7 +35,7 @@ is_larger unit (Err r) = false
 
 -- The larger blocks that an accepted header shows are counted by the sizes as they are asked for, at every index from 0 on.
 pub larger_asked : (s : List ℕ) (t : Segment) → segment_of s ≡ Ok t → (more : ℕ)
-    → t.larger ≡ count (t.blocks + more) (λ k. is_larger (2 ^ t.head.unit_shift) (size_of s k))
+    → t.larger ≡ count (t.blocks + more) (λ k. is_larger (2 ^ t.head.shifts.unit) (size_of s k))
 unfolding size_of unless_refused is_larger shown head_of
 larger_asked s t e more =
     let told = accepted-shown s t e in
@@ -71,8 +71,9 @@ module _ (a b c : List ℕ) (same : length b ≡ length c) (end : length_for (bl
   pub ignored_size : (k : ℕ) → size_of (a ++ b) k ≡ size_of (a ++ c) k
   unfolding size_of
   ignored_size k =
+      let told : Bool → ℕ → Result (Option ℕ) Refusal = λ there size. cond there (Ok (Some size)) (Ok None) in
       rw (same-checks, number 2 26 (omega arith))
       (ap (unless_refused Err (first_of (segment_checks (a ++ c))))
-      (by_cases (λ t. cond t (Ok (Some (size_at (a ++ b) k))) (Ok None) ≡ cond t (Ok (Some (size_at (a ++ c) k))) (Ok None)) (ltb k (block_count (a ++ c)))
-      (λ q. ap Ok (Some (same_size k (ltb-true k _ q))))
+      (by_cases (λ t. told t (size_at (a ++ b) k) ≡ told t (size_at (a ++ c) k)) (ltb k (block_count (a ++ c)))
+      (λ q. ap (told true) (same_size k (ltb-true k _ q)))
       (λ _. refl)))

@@ -16,7 +16,7 @@ use Rattle.segment.specs.declared.Head.{Head}
 use Rattle.segment.specs.Layout.{block_count, size_at, head_of, length_for, larger_than}
 use Rattle.segment.specs.Reading.{segment_checks, shown, segment_of, segment_number, segment_values, segment_part, size_of}
 use Rattle.segment.specs.Writing.{segment_length, pieces, segment_bytes, write_checks, segment_written}
-use Rattle.segment.proofs.Reading.{accepted-checks, passed, accepted-fits}
+use Rattle.segment.proofs.Reading.{accepted-checks, passed, accepted_fits}
 use Rattle.segment.proofs.ExactlyWhen.{accepted_well_formed}
 use Rattle.segment.proofs.Writing.{Wide, fits, length-bytes, as_read, is_head, is_length, is_unit, is_count, is_size}
 
@@ -28,7 +28,7 @@ pub record ReadsBack (s : List ℕ) (h : Head) (sizes : List ℕ) : Type 0 where
         length = segment_length sizes;
         blocks = length sizes;
         sizes = record { at = 28; len = 4 * length sizes };
-        larger = larger_than (2 ^ h.unit_shift) (length sizes) (λ k. get_or sizes k 0);
+        larger = larger_than (2 ^ h.shifts.unit) (length sizes) (λ k. get_or sizes k 0);
       })
   pub each : (k : ℕ) → k < length sizes → size_of s k ≡ Ok (Some (get_or sizes k 0))
   pub beyond : (k : ℕ) → length sizes ≤ k → size_of s k ≡ Ok None
@@ -43,8 +43,8 @@ reads_back h sizes wide accepted =
     let checks : first_of (segment_checks s) ≡ (Ok tt) = sym (as_read h sizes (omega (arith, f.unit)) (omega (arith, f.unit, f.chunk)) (omega (arith, f.cluster))) ∙ accepted in
     let count = is_count h sizes f.limit in
     let read : (k : ℕ) → k < length sizes → size_at s k ≡ get_or sizes k 0 = λ k inside. is_size h sizes k inside (wide.each k inside) in
-    let larger : larger_than (2 ^ h.unit_shift) (length sizes) (size_at s) ≡ larger_than (2 ^ h.unit_shift) (length sizes) (λ k. get_or sizes k 0) =
-    count_is (length sizes) (λ k inside. ap (ltb (2 ^ h.unit_shift)) (read k inside))
+    let larger : larger_than (2 ^ h.shifts.unit) (length sizes) (size_at s) ≡ larger_than (2 ^ h.shifts.unit) (length sizes) (λ k. get_or sizes k 0) =
+    count_is (length sizes) (λ k inside. ap (ltb (2 ^ h.shifts.unit)) (read k inside))
     in
     record {
       values = rw (checks, is_head h sizes f wide, is_length h sizes f.limit, count, is_unit h sizes (omega (arith, f.unit)), larger);
@@ -75,7 +75,7 @@ unfolding segment_bytes head_of joined size_at
 rewritten s b z =
     let w = accepted_well_formed s z in
     let n = block_count s in
-    let inside : 28 + 4 * n ≤ length s = (accepted-fits s (accepted-checks s z)).1 in
+    let inside : 28 + 4 * n ≤ length s = (accepted_fits s (accepted-checks s z)).1 in
     let number : (width at : ℕ) → at + width ≤ 28 → le_bytes width (le_at width s at) ≡ part_of s at width = λ width at low. le_part_back width s at b (omega (arith, w.head)) in
     let count = length_places n (size_at s) in
     let widths : List ℕ = 4 ∷ 4 ∷ 2 ∷ 1 ∷ 1 ∷ 1 ∷ 1 ∷ 2 ∷ 4 * n ∷ [] in
@@ -107,7 +107,7 @@ unfolding write_checks head_of
 rewrites s out z room =
     let e = accepted-checks s z in
     let count = length_places (block_count s) (size_at s) in
-    let size : segment_length (sizes_in s) ≤ length s = omega (arith, count, (accepted-fits s e).1) in
+    let size : segment_length (sizes_in s) ≤ length s = omega (arith, count, (accepted_fits s e).1) in
     let limit : segment_length (sizes_in s) ≤ 65535 = omega (arith, ltb-false 65535 (length s) (passed s e).limit) in
     let accepted = pass_accepted (write_checks (head_of s) (sizes_in s)) (le-ltb 65535 _ limit, ((passed s e).shifts, tt)) in
     let bytes = segment_bytes (head_of s) (sizes_in s) in

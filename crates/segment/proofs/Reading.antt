@@ -67,8 +67,8 @@ unfolding shifts_wrong
 shifts_right unit chunk cluster same unit-fits cluster-fits = rw (same, eq-eqb unit unit refl, le-ltb 31 unit unit-fits, le-ltb 31 cluster cluster-fits)
 
 -- What an accepted header says of what is shown: the data unit is a number of 32 bits, and the sizes lie inside.
-pub accepted-fits : (s : List ℕ) → first_of (segment_checks s) ≡ Ok tt → (unit_shift s ≤ 31) × (length_for (block_count s) ≤ length s)
-accepted-fits s e = let p = passed s e in ((shifts_are _ _ _ p.shifts).1, (lengths_are _ _ _ p.lengths).1)
+pub accepted_fits : (s : List ℕ) → first_of (segment_checks s) ≡ Ok tt → (unit_shift s ≤ 31) × (length_for (block_count s) ≤ length s)
+accepted_fits s e = let p = passed s e in ((shifts_are _ _ _ p.shifts).1, (lengths_are _ _ _ p.lengths).1)
 
 -- The sizes lie inside the header.
 pub part_inside : (s : List ℕ) → (segment_span s).at + (segment_span s).len ≤ length s
@@ -76,5 +76,5 @@ unfolding segment_of unless_refused segment_values shown
 part_inside s = told (first_of (segment_checks s)) refl
   where
     told : (o : Outcome) → first_of (segment_checks s) ≡ o → (segment_span s).at + (segment_span s).len ≤ length s
-    told (Ok tt) e = rw e (accepted-fits s e).1
+    told (Ok tt) e = rw e (accepted_fits s e).1
     told (Err r) e = rw e (omega arith)

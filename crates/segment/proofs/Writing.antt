@@ -17,10 +17,10 @@ use Rattle.segment.proofs.Reading.{shifts_are}
 
 -- the shifts, where each is a byte, as numbers of four bytes: with the two zero bytes before them, and with 01 and the block count behind
 abbrev pub first_shifts : Head → ℕ
-first_shifts h = 65536 * h.unit_shift + 16777216 * h.chunk_shift
+first_shifts h = 65536 * h.shifts.unit + 16777216 * h.shifts.chunk
 
 abbrev pub last_shift : Head → ℕ → ℕ
-last_shift h blocks = h.cluster_shift + 256 + 65536 * blocks
+last_shift h blocks = h.shifts.cluster + 256 + 65536 * blocks
 
 -- the numbers between the start offset and the sizes
 abbrev pub middle : Head → List ℕ → List ℕ
@@ -29,9 +29,9 @@ middle h sizes = segment_length sizes ∷ h.bytes_in_stream ∷ h.bytes_in_vdl �
 -- what is accepted fits: its length, and each shift in a byte
 pub record Fits (h : Head) (sizes : List ℕ) : Type 0 where
   pub limit : segment_length sizes ≤ 65535
-  pub unit : h.unit_shift ≤ 31
-  pub chunk : h.chunk_shift ≡ h.unit_shift
-  pub cluster : h.cluster_shift ≤ 31
+  pub unit : h.shifts.unit ≤ 31
+  pub chunk : h.shifts.chunk ≡ h.shifts.unit
+  pub cluster : h.shifts.cluster ≤ 31
 
 pub fits : (h : Head) (sizes : List ℕ) → first_of (write_checks h sizes) ≡ Ok tt → Fits h sizes
 unfolding write_checks
@@ -60,8 +60,8 @@ last-bytes cluster blocks p q =
 pub bytes_are : (h : Head) (sizes : List ℕ) → Fits h sizes → segment_bytes h sizes ≡ (le_bytes 8 h.start_offset ++ le32_bytes (middle h sizes)) ++ le32_bytes sizes
 unfolding segment_bytes joined le_bytes le32_bytes
 bytes_are h sizes f =
-    let front = first_bytes h.unit_shift h.chunk_shift f.unit (omega (arith, f.unit, f.chunk)) in
-    let back = last-bytes h.cluster_shift (length sizes) f.cluster (omega (arith, f.limit)) in
+    let front = first_bytes h.shifts.unit h.shifts.chunk f.unit (omega (arith, f.unit, f.chunk)) in
+    let back = last-bytes h.shifts.cluster (length sizes) f.cluster (omega (arith, f.limit)) in
     sym (λ i. le_bytes 8 h.start_offset ++ (le_bytes 4 (segment_length sizes) ++ (le_bytes 4 h.bytes_in_stream ++ (le_bytes 4 h.bytes_in_vdl ++ (front i ++ (back i ++ sym (append-nil (le32_bytes sizes)) i))))))
 
 pub length-bytes : (h : Head) (sizes : List ℕ) → length (segment_bytes h sizes) ≡ segment_length sizes
@@ -85,15 +85,15 @@ module _ (h : Head) (sizes : List ℕ) where
   unfolding segment_bytes joined le_bytes
   is_marks = (le_piece 2 (pieces h sizes) 4 0 20 refl (omega arith) refl, le_piece 1 (pieces h sizes) 8 1 25 refl (omega arith) refl)
 
-  pub is_unit : h.unit_shift < 256 → unit_shift (segment_bytes h sizes) ≡ h.unit_shift
+  pub is_unit : h.shifts.unit < 256 → unit_shift (segment_bytes h sizes) ≡ h.shifts.unit
   unfolding segment_bytes joined le_bytes
   is_unit small = le_piece 1 (pieces h sizes) 5 _ 22 refl small refl
 
-  is_chunk : h.chunk_shift < 256 → chunk_shift (segment_bytes h sizes) ≡ h.chunk_shift
+  is_chunk : h.shifts.chunk < 256 → chunk_shift (segment_bytes h sizes) ≡ h.shifts.chunk
   unfolding segment_bytes joined le_bytes
   is_chunk small = le_piece 1 (pieces h sizes) 6 _ 23 refl small refl
 
-  is_cluster : h.cluster_shift < 256 → cluster_shift (segment_bytes h sizes) ≡ h.cluster_shift
+  is_cluster : h.shifts.cluster < 256 → cluster_shift (segment_bytes h sizes) ≡ h.shifts.cluster
   unfolding segment_bytes joined le_bytes
   is_cluster small = le_piece 1 (pieces h sizes) 7 _ 24 refl small refl
 
@@ -114,13 +114,15 @@ is_head h sizes f wide = λ i. record {
   start_offset = le_piece 8 (pieces h sizes) 0 _ 0 refl wide.start refl i;
   bytes_in_stream = le_piece 4 (pieces h sizes) 2 _ 12 refl wide.stream refl i;
   bytes_in_vdl = le_piece 4 (pieces h sizes) 3 _ 16 refl wide.vdl refl i;
-  unit_shift = is_unit h sizes (omega (arith, f.unit)) i;
-  chunk_shift = is_chunk h sizes (omega (arith, f.unit, f.chunk)) i;
-  cluster_shift = is_cluster h sizes (omega (arith, f.cluster)) i;
+  shifts = record {
+    unit = is_unit h sizes (omega (arith, f.unit)) i;
+    chunk = is_chunk h sizes (omega (arith, f.unit, f.chunk)) i;
+    cluster = is_cluster h sizes (omega (arith, f.cluster)) i;
+  };
 }
 
 -- Where each shift is a byte, the writer refuses what the reader would refuse of the bytes, by the same number.
-pub as_read : (h : Head) (sizes : List ℕ) → h.unit_shift < 256 → h.chunk_shift < 256 → h.cluster_shift < 256
+pub as_read : (h : Head) (sizes : List ℕ) → h.shifts.unit < 256 → h.shifts.chunk < 256 → h.shifts.cluster < 256
     → first_of (write_checks h sizes) ≡ first_of (segment_checks (segment_bytes h sizes))
 unfolding write_checks segment_checks
 as_read h sizes unit chunk cluster =

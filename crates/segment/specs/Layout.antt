@@ -4,6 +4,7 @@ use Rattle.std.specs.Prelude.{ℕ, ◌+◌, ◌*◌, Bool, not, ◌||◌, List, 
 use Rattle.lemmas.specs.Counting.{count}
 use Rattle.wire.specs.Parts.{le_at}
 use Rattle.segment.specs.declared.Head.{Head}
+use Rattle.segment.specs.declared.Shifts.{Shifts}
 
 -- start offset 8 bytes, length 4, bytes in stream 4, bytes in VDL 4
 abbrev pub start_offset : List ℕ → ℕ
@@ -41,6 +42,9 @@ block_count s = le_at 2 s 26
 unfoldable pub size_at : List ℕ → ℕ → ℕ
 size_at s k = le_at 4 s (28 + 4 * k)
 
+abbrev pub shifts_of : List ℕ → Shifts
+shifts_of s = record { unit = unit_shift s; chunk = chunk_shift s; cluster = cluster_shift s }
+
 -- the numbers that a writer is given, and a reader shows
 unfoldable pub head_of : List ℕ → Head
 head_of s =
@@ -48,9 +52,7 @@ head_of s =
       start_offset = start_offset s;
       bytes_in_stream = bytes_in_stream s;
       bytes_in_vdl = bytes_in_vdl s;
-      unit_shift = unit_shift s;
-      chunk_shift = chunk_shift s;
-      cluster_shift = cluster_shift s;
+      shifts = shifts_of s;
     }
 
 -- a record of so many blocks, with nothing behind their sizes

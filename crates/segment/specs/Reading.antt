@@ -46,7 +46,7 @@ segment_number (Err r) = number_of r
 
 -- the head beside a refusal
 abbrev pub no_head : Head
-no_head = record { start_offset = 0; bytes_in_stream = 0; bytes_in_vdl = 0; unit_shift = 0; chunk_shift = 0; cluster_shift = 0 }
+no_head = record { start_offset = 0; bytes_in_stream = 0; bytes_in_vdl = 0; shifts = record { unit = 0; chunk = 0; cluster = 0 } }
 
 unfoldable pub segment_values : Result Segment Refusal → Segment
 segment_values (Ok t) = t

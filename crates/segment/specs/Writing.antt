@@ -21,9 +21,9 @@ pieces h sizes =
     ∷ le_bytes 4 h.bytes_in_stream
     ∷ le_bytes 4 h.bytes_in_vdl
     ∷ (0 ∷ 0 ∷ [])
-    ∷ le_bytes 1 h.unit_shift
-    ∷ le_bytes 1 h.chunk_shift
-    ∷ le_bytes 1 h.cluster_shift
+    ∷ le_bytes 1 h.shifts.unit
+    ∷ le_bytes 1 h.shifts.chunk
+    ∷ le_bytes 1 h.shifts.cluster
     ∷ (1 ∷ [])
     ∷ le_bytes 2 (length sizes)
     ∷ le32_bytes sizes
@@ -36,7 +36,7 @@ segment_bytes h sizes = joined (pieces h sizes)
 unfoldable pub write_checks : Head → List ℕ → List Check
 write_checks h sizes =
     (ltb 65535 (segment_length sizes) ⇒ TooLong)
-    ∷ (shifts_wrong h.unit_shift h.chunk_shift h.cluster_shift ⇒ WrongShifts)
+    ∷ (shifts_wrong h.shifts.unit h.shifts.chunk h.shifts.cluster ⇒ WrongShifts)
     ∷ []
 
 -- what those checks say, then 13 where the output has not that many bytes

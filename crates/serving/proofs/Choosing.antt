@@ -1,11 +1,11 @@
 -- Laws of the choice: when an envelope serves, by which key, and what is chosen of two.
 use Rattle.lemmas.proofs.Basics.{ℕ, ◌<◌, arith, Bool, true, false, cond, ◌&&◌, true≢false, List, ◌≡◌, refl, sym, ap, ◌∙◌, eqb, length, ne_eqb}
-use Rattle.std.specs.Prelude.{Ok, Err, Option, None}
+use Rattle.std.specs.Prelude.{Result, Ok, Err, Option, Some, None}
 use Rattle.serving.specs.declared.Serving.{Serving}
 use Rattle.lemmas.proofs.Cases.{by_cases, cond_cases, both_true, true-or, false-or}
 use Rattle.refusal.specs.Outcome.{Outcome}
 use Rattle.refusal.specs.Chain.{first_of, unless_refused}
-use Rattle.refusal.specs.declared.Refusal.TheVariants.{NeitherServes}
+use Rattle.refusal.specs.declared.Refusal.{Refusal}
 use Rattle.refusal.proofs.Numbers.{number_not-zero}
 use Rattle.wire.specs.declared.Span.{Span}
 use Rattle.wire.specs.Parts.{part_of}
@@ -31,7 +31,7 @@ use Rattle.envelope.proofs.Forms.{absent_l1, absent_l2, public_none, keys_64}
 use Rattle.serving.specs.declared.SeedKey.{SeedKey}
 use Rattle.serving.specs.declared.SeedKey.TheVariants.{L1, L2}
 use Rattle.serving.specs.declared.Choice.{Choice}
-use Rattle.serving.specs.declared.Choice.TheVariants.{Cached, Fetched, Neither}
+use Rattle.serving.specs.declared.Choice.TheVariants.{Cached, Fetched}
 use Rattle.serving.specs.Serving.{Serves}
 use Rattle.serving.specs.Choice.{key_for, served_by, prefer, choice_of, chosen_part, choice_number}
 use Rattle.serving.proofs.Reaching.{accepted_bits}
@@ -53,7 +53,7 @@ pub record Key (s : List ℕ) (i : Gkid) (key : SeedKey) (part : List ℕ) : Typ
 
 -- what it says that an envelope serves by a key, or does not serve
 abbrev pub Says : List ℕ → RootId → Gkid → Option Serving → Type 0
-Says s root i (SomeBy key span) = Serves s root i × Key s i key (part_of s span.at span.len)
+Says s root i (Some k) = Serves s root i × Key s i k.key (part_of s k.place.at k.place.len)
 Says s root i None = Serves s root i → ⊥
 
 -- An accepted envelope.
@@ -132,10 +132,10 @@ reached_by-one s i z k1 k2 = not_by_both _ (head_of s).at i _ _ _ (accepted-keys
     some n h = omega arith
 
 -- what a choice says of two envelopes: the cached one if that serves, else the fetched one, else neither
-abbrev pub ChoiceSays : RootId → Gkid → List ℕ → List ℕ → Choice → Type 0
-ChoiceSays root i cached fetched (Cached key span) = Says cached root i (SomeBy key span)
-ChoiceSays root i cached fetched (Fetched key span) = Says cached root i None × Says fetched root i (SomeBy key span)
-ChoiceSays root i cached fetched Neither = Says cached root i None × Says fetched root i None
+abbrev pub ChoiceSays : RootId → Gkid → List ℕ → List ℕ → Result Choice Refusal → Type 0
+ChoiceSays root i cached fetched (Ok (Cached serving)) = Says cached root i (Some serving)
+ChoiceSays root i cached fetched (Ok (Fetched serving)) = Says cached root i None × Says fetched root i (Some serving)
+ChoiceSays root i cached fetched (Err r) = Says cached root i None × Says fetched root i None
 
 module _ (root : RootId) (i : Gkid) (cached fetched : List ℕ) where
   pub choice_says : ChoiceSays root i cached fetched (choice_of root i cached fetched)
@@ -143,8 +143,8 @@ module _ (root : RootId) (i : Gkid) (cached fetched : List ℕ) where
   choice_says = of (served_by (envelope_of cached) root i) (served_by (envelope_of fetched) root i) (served cached root i) (served fetched root i)
     where
       of : (a b : Option Serving) → Says cached root i a → Says fetched root i b → ChoiceSays root i cached fetched (prefer a b)
-      of (SomeBy key span) b x y = x
-      of None (SomeBy key span) x y = (x, y)
+      of (Some serving) b x y = x
+      of None (Some serving) x y = (x, y)
       of None None x y = (x, y)
 
   -- The part is 64 bytes where a key is chosen, and empty exactly where 23 is answered.
@@ -152,7 +152,7 @@ module _ (root : RootId) (i : Gkid) (cached fetched : List ℕ) where
   unfolding chosen_part choice_number
   part_length = of (choice_of root i cached fetched) choice_says
     where
-      of : (c : Choice) → ChoiceSays root i cached fetched c → length (chosen_part c cached fetched) ≡ cond (eqb (choice_number c) 0) 64 0
-      of (Cached key span) says = says.1.size
-      of (Fetched key span) says = says.1.1.size
-      of Neither says = rw (ne_eqb _ 0 (number_not-zero NeitherServes))
+      of : (c : Result Choice Refusal) → ChoiceSays root i cached fetched c → length (chosen_part c cached fetched) ≡ cond (eqb (choice_number c) 0) 64 0
+      of (Ok (Cached serving)) says = says.1.size
+      of (Ok (Fetched serving)) says = says.1.1.size
+      of (Err r) says = rw (ne_eqb _ 0 (number_not-zero r))

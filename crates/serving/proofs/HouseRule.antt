@@ -13,7 +13,7 @@ use Rattle.keys.specs.Forms.{keys_of}
 use Rattle.keys.specs.Published.{published_allowed}
 use Rattle.keys.proofs.HouseRule.{HouseOnly, house_only}
 use Rattle.reach.specs.Maps.{empty_map}
-use Rattle.reach.specs.Reaches.{refused_reach, form_reach, reach_rows}
+use Rattle.reach.specs.Reaches.{form_reach, reach_rows}
 use Rattle.reach.proofs.FormLaws.{keyless_reach}
 use Rattle.envelope.specs.Layout.{head_of, is_public, lengths_of, bodies_of}
 use Rattle.envelope.specs.Reading.{envelope_checks, shown, envelope_of, envelope_number, form_of}
@@ -26,7 +26,7 @@ use Rattle.serving.proofs.Choosing.{serves_seed}
 
 -- An accepted public envelope reaches nothing, with its key or without, at every identifier.
 pub public_reaches-nothing : (s : List ℕ) → envelope_number (envelope_of s) ≡ 0 → is_public (head_of s).flags ≡ true
-    → envelope_reach s ≡ record { outcome = Ok tt; rows = empty_map }
+    → envelope_reach s ≡ Ok (record { rows = empty_map })
 unfolding reach_of form_reach keys_of shown
 public_reaches-nothing s z p = rw (accepted-shown s z, public_none (shown s) p) (keyless_reach (head_of s).at ∙ rw (not_above (head_of s).at (accepted-keys s z).0))
 
@@ -50,7 +50,7 @@ module _ (s : List ℕ) (z : envelope_number (envelope_of s) ≡ 0) (against : p
 
 -- The map of every envelope is as by the published rule: empty where that does not allow the keys.
 pub reach_as_published : (s : List ℕ) → reach_rows (envelope_reach s) ≡ cond (published_keys s) (reach_rows (envelope_reach s)) empty_map
-unfolding envelope_of envelope_number unless_refused reach_of refused_reach reach_rows
+unfolding envelope_of envelope_number unless_refused reach_of reach_rows
 reach_as_published s = by_cases (λ t. published_keys s ≡ t → reach_rows (envelope_reach s) ≡ cond t (reach_rows (envelope_reach s)) empty_map) (published_keys s) (λ _ _. refl) (λ _. told (first_of (envelope_checks s)) refl) refl
   where
     told : (o : Outcome) → first_of (envelope_checks s) ≡ o → published_keys s ≡ false → reach_rows (envelope_reach s) ≡ empty_map

@@ -11,7 +11,7 @@ use Rattle.keys.proofs.FormLaws.{seed_checks_lem}
 use Rattle.text.specs.WellFormed as text
 use Rattle.text.proofs.ExactlyWhen.{well_formed_text}
 use Rattle.reach.specs.Reached.{reaches}
-use Rattle.reach.specs.Reaches.{map_reach, keys_reach, form_reach, reached_in}
+use Rattle.reach.specs.Reaches.{map_reach, keys_reach, form_reach, reach_rows, reached_in}
 use Rattle.reach.proofs.MapLaws.{in_map_lem}
 use Rattle.envelope.specs.declared.Head.{Head}
 use Rattle.envelope.specs.Layout.{head_of, is_public, bodies_of}
@@ -28,7 +28,7 @@ unfolding reach_of keys_reach unless_refused shown
 accepted_reach s z = rw (accepted-shown s z, seed_accepted s z)
 
 pub accepted_bits : (s : List ℕ) (i : Gkid) → envelope_number (envelope_of s) ≡ 0 → reached_in (head_of s).at (envelope_reach s) i ≡ reaches (keys_of (form_of (shown s))) (head_of s).at i
-unfolding reached_in
+unfolding reached_in reach_rows
 accepted_bits s i z = rw (accepted_reach s z) (in_map_lem (keys_of (form_of (shown s))) (head_of s).at i)
 
 -- what is given for a seed envelope with just the keys of a form: proper texts, a fitting length, and the form's 64-byte keys

@@ -4,30 +4,21 @@
 ghost use Rattle.std.specs.Prelude.{◌≡◌};
 ghost use Rattle.sid.specs.Rule.{starts_sid, is_sid};
 
-// Revision 1, count c at most 15, and 8+4c bytes. Of fewer than 8 bytes none is read.
+// Revision 1, count c at most 15, and 8+4c bytes.
+#[tactic(auto, unfolding(crate::specs::Rule::starts_sid))]
 pub fn starts_sid(s: &[u8]) -> bool
     ensures { result ≡ starts_sid s.now }
 {
-    if s.len() < 8 {
-        return false;
+    match s {
+        [1, count @ ..=15, ..] => 8 + 4 * usize::from(*count) <= s.len(),
+        _ => false,
     }
-    if s[0] != 1 {
-        return false;
-    }
-    let count = s[1] as usize;
-    if count > 15 {
-        return false;
-    }
-    8 + 4 * count <= s.len()
 }
 
 // A SID, and nothing behind it.
+#[tactic(auto, using(crate::proofs::ExactlyWhen::starts), unfolding(crate::specs::Rule::is_sid))]
 pub fn is_sid(s: &[u8]) -> bool
     ensures { result ≡ is_sid s.now }
 {
-    if !starts_sid(s) {
-        return false;
-    }
-    let count = s[1] as usize;
-    s.len() == 8 + 4 * count
+    starts_sid(s) && s.len() == 8 + 4 * usize::from(s[1])
 }

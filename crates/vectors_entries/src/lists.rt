@@ -3,7 +3,7 @@ use crate::{entries, print};
 use keyentry::EntryPart;
 use keylist::walk::Walk;
 use keylist::{ListRefusal, Place, Step};
-use line::Line;
+use line::{Line, Text};
 use std::io;
 
 // The head of a sound entry of 25 bytes, whose item of 4 is at 20 and whose FEK of 1 is at 24.
@@ -138,21 +138,27 @@ fn list(
 ) -> io::Result<()> {
     let mut s = [0; 65536];
     put(&mut s, count, first, second);
-    print(rt, judged(Line::new().text(name), cases::first(&s, len)))
+    let mut line = Line::new();
+    line.text(name);
+    judged(&mut line, cases::first(&s, len));
+    print(rt, line)
 }
 
-fn judged(line: Line, list: &[u8]) -> Line {
+fn judged(line: &mut Line, list: &[u8]) {
     match keylist::judge(list) {
-        Ok(n) => line.text(b"COUNT ").number(n as u64),
-        Err(refusal) => refused(line, refusal),
+        Ok(n) => {
+            line.text(b"COUNT ");
+            line.number(n as u64);
+        }
+        Err(told) => refused(line, told),
     }
 }
 
 // A refusal, and the index of the entry that it is given for.
-fn refused(line: Line, refused: ListRefusal) -> Line {
-    words::refused(line, refused.refusal)
-        .text(b" INDEX ")
-        .number(refused.index as u64)
+fn refused(line: &mut Line, told: ListRefusal) {
+    words::refused(line, told.refusal);
+    line.text(b" INDEX ");
+    line.number(told.index as u64);
 }
 
 fn walks(rt: &impl Print) -> io::Result<()> {
@@ -169,31 +175,24 @@ fn walks(rt: &impl Print) -> io::Result<()> {
 fn walk(rt: &impl Print, name: &[u8], len: usize, count: u32, second: [u32; 5]) -> io::Result<()> {
     let mut s = [0; 65536];
     put(&mut s, count, SOUND, second);
-    print(rt, steps(Line::new().text(name), cases::first(&s, len)))
+    let mut line = Line::new();
+    line.text(name);
+    steps(&mut line, cases::first(&s, len));
+    print(rt, line)
 }
 
-fn steps(line: Line, list: &[u8]) -> Line {
-    let place = Place::START;
-    let two = step(step(Walked { line, place }, list), list);
-    let four = step(step(two, list), list);
-    four.line
+fn steps(line: &mut Line, list: &[u8]) {
+    let mut place = Place::START;
+    for _ in 0..4u8 {
+        place = step(line, place, list);
+    }
 }
 
-// The line so far, and the place of the next step.
-#[derive(Clone, Copy)]
-struct Walked {
-    line: Line,
-    place: Place,
-}
-
-fn step(walked: Walked, list: &[u8]) -> Walked {
-    let line = walked.line;
-    let from = walked.place;
+fn step(line: &mut Line, from: Place, list: &[u8]) -> Place {
     let advance = keylist::next_step(list, from);
-    let step = advance.step;
-    let place = advance.place;
-    let line = found(line.text(b" "), step);
-    Walked { line, place }
+    line.text(b" ");
+    found(line, advance.step);
+    advance.place
 }
 
 // The same by one walk, which holds the list and its place.
@@ -205,54 +204,38 @@ fn held(rt: &impl Print) -> io::Result<()> {
 fn hold(rt: &impl Print, name: &[u8], len: usize, count: u32, second: [u32; 5]) -> io::Result<()> {
     let mut s = [0; 65536];
     put(&mut s, count, SOUND, second);
-    print(rt, told(Line::new().text(name), ask(cases::first(&s, len))))
+    let mut line = Line::new();
+    line.text(name);
+    told(&mut line, ask(cases::first(&s, len)));
+    print(rt, line)
 }
 
 // What one walk answers when it is asked four times.
-#[derive(Clone, Copy)]
-struct Asked {
-    one: Step,
-    two: Step,
-    three: Step,
-    four: Step,
+fn ask(list: &[u8]) -> [Step; 4] {
+    let mut walk = Walk::over(list);
+    [walk.next(), walk.next(), walk.next(), walk.next()]
 }
 
-fn ask(list: &[u8]) -> Asked {
-    let mut walk = Walk::over(list);
-    let one = walk.next();
-    let two = walk.next();
-    let three = walk.next();
-    let four = walk.next();
-    Asked {
-        one,
-        two,
-        three,
-        four,
+fn told(line: &mut Line, asked: [Step; 4]) {
+    for step in asked {
+        line.text(b" ");
+        found(line, step);
     }
 }
 
-fn told(line: Line, asked: Asked) -> Line {
-    let one = asked.one;
-    let two = asked.two;
-    let three = asked.three;
-    let four = asked.four;
-    let line = found(found(line.text(b" "), one).text(b" "), two);
-    found(found(line.text(b" "), three).text(b" "), four)
-}
-
-fn found(line: Line, step: Step) -> Line {
+fn found(line: &mut Line, step: Step) {
     match step {
         Step::Entry(found) => {
             let entry = found.entry;
-            let at = line
-                .text(b"ENTRY ")
-                .number(found.index as u64)
-                .text(b" AT ")
-                .number(found.at as u64);
-            entries::shown(at.text(b" "), entry)
+            line.text(b"ENTRY ");
+            line.number(found.index as u64);
+            line.text(b" AT ");
+            line.number(found.at as u64);
+            line.text(b" ");
+            entries::shown(line, entry);
         }
         Step::End => line.text(b"END"),
-        Step::Refused(refusal) => refused(line, refusal),
+        Step::Refused(told) => refused(line, told),
     }
 }
 
@@ -266,16 +249,16 @@ fn item(rt: &impl Print, name: &[u8], second: [u32; 5], n: usize) -> io::Result<
     let mut s = [0; 65536];
     let whole = [4, 0, 0, 0];
     put(&mut s, 2, SOUND, second);
-    print(
-        rt,
-        cases::compared(
-            Line::new().text(name),
-            keylist::part(
-                cases::first(&s, 54),
-                Place { at: 29, index: 1 },
-                EntryPart::Item,
-            ),
-            cases::first(&whole, n),
+    let mut line = Line::new();
+    line.text(name);
+    cases::compared(
+        &mut line,
+        keylist::part(
+            cases::first(&s, 54),
+            Place { at: 29, index: 1 },
+            EntryPart::Item,
         ),
-    )
+        cases::first(&whole, n),
+    );
+    print(rt, line)
 }

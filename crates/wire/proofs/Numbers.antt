@@ -1,10 +1,16 @@
 -- Laws of numbers in bytes, shown once over the width: stored and read back, read and stored, and how far a number goes.
-use Rattle.lemmas.proofs.Basics.{ℕ, zero, suc, ◌+◌, ◌*◌, ◌/◌, ◌%◌, ◌^◌, ◌≤◌, ◌<◌, arith, mul_assoc, pow-suc, pow-succ', List, [], ◌∷◌, ◌++◌, ◌≡◌, refl, sym, ap, ◌∙◌, leb, length, get_or, take, drop, replicate, add-one, drop-cons}
+use Rattle.lemmas.proofs.Basics.{ℕ, zero, suc, ◌+◌, ◌*◌, ◌/◌, ◌%◌, ◌^◌, ◌≤◌, ◌<◌, arith, mul_assoc, pow-suc, pow-succ', div-div-eq-div-mul, List, [], ◌∷◌, ◌++◌, ◌≡◌, refl, sym, ap, ◌∙◌, leb, leb-true, leb-false, length, get_or, take, drop, replicate, add-one, drop-cons}
 use mathlib.Core.List.{reverse, reverse_aux, reverse-append, reverse-reverse}
+use Rattle.std.specs.Array.{IsWholeChunk}
+use Rattle.std.specs.Int.{bytes_low_first}
+use Rattle.std.specs.Result.{MatchResult, result_unwrap_or}
+use Rattle.std.proofs.Common.{Result, Ok, Err}
+use Rattle.std.proofs.lemmas.List.{get_or_past}
+use mathlib.Core.Logic.{◌≢◌}
 use Rattle.wire.specs.Numbers.{le_of, le_bytes, be_of, be_bytes}
 use Rattle.wire.specs.Parts.{part_of, le_at, be_at, joined}
-use Rattle.lemmas.proofs.Cases.{cond_cases}
-use Rattle.wire.proofs.Parts.{piece_part, length_part, part_in, part_next}
+use Rattle.lemmas.proofs.Cases.{by_cases, cond_cases}
+use Rattle.wire.proofs.Parts.{piece_part, length_part, part_in, part_out, part_next, part_none}
 
 -- each element is a byte
 abbrev pub Bytes : List ℕ → Type 0
@@ -75,14 +81,20 @@ pub spelt : (bs : List ℕ) → places (length bs) (λ k. get_or bs k 0) ≡ bs
 spelt [] = refl
 spelt (b ∷ bs) = ap (λ t. b ∷ t) (spelt bs)
 
--- a number at a place, from the bytes of the part there by their places
-pub le_read : (w : ℕ) (s b : List ℕ) (at : ℕ) → b ≡ part_of s at w → length b ≡ w → le_of (places w (λ k. get_or b k 0)) ≡ le_at w s at
-unfolding le_at
-le_read w s b at e l = ap le_of (rw l at (spelt b) ∙ e)
+-- a number at a place, from its bytes by their places
+pub le_read : (w : ℕ) (s b : List ℕ) (at : ℕ) → le_of b ≡ le_at w s at → length b ≡ w → le_of (places w (λ k. get_or b k 0)) ≡ le_at w s at
+le_read w s b at e l = ap le_of (rw l at (spelt b)) ∙ e
 
-pub be_read : (w : ℕ) (s b : List ℕ) (at : ℕ) → b ≡ part_of s at w → length b ≡ w → be_of (places w (λ k. get_or b k 0)) ≡ be_at w s at
-unfolding be_at
-be_read w s b at e l = ap be_of (rw l at (spelt b) ∙ e)
+pub be_read : (w : ℕ) (s b : List ℕ) (at : ℕ) → be_of b ≡ be_at w s at → length b ≡ w → be_of (places w (λ k. get_or b k 0)) ≡ be_at w s at
+be_read w s b at e l = ap be_of (rw l at (spelt b)) ∙ e
+
+-- a byte at a place
+pub byte_read : (s : List ℕ) (at : ℕ) → le_at 1 s at ≡ get_or s at 0
+unfolding le_at le_of
+byte_read s at =
+    by_cases (λ _. le_of (part_of s at 1) ≡ get_or s at 0) (leb (at + 1) (length s))
+    (λ q. let h = leb-true _ _ q in rw (part_in s at 1 h, drop-cons s at 0 (omega arith)) (omega arith))
+    (λ q. let h = leb-false _ _ q in rw (part_out s at 1 h, get_or_past s at 0 (omega arith)))
 
 -- A number that is the k-th piece of a record is read at its place.
 pub le_piece : (w : ℕ) (pieces : List (List ℕ)) (k x at : ℕ) → get_or pieces k [] ≡ le_bytes w x → x < 256 ^ w → length (joined (take k pieces)) ≡ at
@@ -108,6 +120,18 @@ bytes_part s at len b = cond_cases Bytes (leb (at + len) (length s)) (λ _. byte
 pub le_part_back : (w : ℕ) (s : List ℕ) (at : ℕ) → Bytes s → at + w ≤ length s → le_bytes w (le_at w s at) ≡ part_of s at w
 unfolding le_at
 le_part_back w s at b h = ap (λ n. le_bytes n (le_of (part_of s at w))) (sym (length_part s at w h)) ∙ bytes_back (part_of s at w) (bytes_part s at w b)
+
+-- A number's bytes as the toolchain's `to_le_bytes` has them.
+low_first : (w i x : ℕ) → bytes_low_first i w x ≡ le_bytes w (x / 256 ^ i)
+unfolding le_bytes
+low_first zero i x = refl
+low_first (suc w) zero x =
+    let whole : x / 1 ≡ x = omega arith in
+    rw (low_first w 1 x, whole)
+low_first (suc w) (suc i) x = rw (low_first w (suc (suc i)) x, div-div-eq-div-mul x (256 ^ suc i) 256, pow-suc 256 (suc i))
+
+pub le_stored : (w x : ℕ) → le_bytes w x ≡ bytes_low_first 0 w x
+le_stored w x = ap (le_bytes w) (omega arith) ∙ sym (low_first w 0 x)
 
 -- Most significant byte first: one byte more, and a number that lies inside, read and stored, gives the part.
 pub be_more : (w : ℕ) (s : List ℕ) (at : ℕ) → at + suc w ≤ length s → be_at (suc w) s at ≡ 256 * be_at w s at + get_or s (at + w) 0
@@ -143,3 +167,24 @@ be_part_back w s at b h =
     let turned = reversed p [] (bytes_part s at w b) tt in
     let size : length (reverse p) ≡ w = omega (arith, turned.1, length_part s at w h) in
     ap reverse (ap (λ n. le_bytes n (le_of (reverse p))) (sym size) ∙ bytes_back (reverse p) turned.0) ∙ reverse-reverse p
+
+-- Bytes that are the part at a place, or zeros where that lies outside, have the part's number, in either order.
+le_zeros : (n : ℕ) → le_of (replicate n 0) ≡ 0
+unfolding le_of
+le_zeros zero = refl
+le_zeros (suc n) = rw (le_zeros n)
+
+part_or_zeros : {E : Type 0} (f : List ℕ → ℕ) (s p : List ℕ) (at n : ℕ) (r : Result (List ℕ) E) → f (replicate n 0) ≡ f [] → p ≡ part_of s at n
+    → MatchResult r (λ y. IsWholeChunk p y n) (λ _. length p ≢ n) → f (result_unwrap_or r (replicate n 0)) ≡ f (part_of s at n)
+part_or_zeros f s p at n (Ok y) zeros is got = ap f (got.same ∙ is)
+part_or_zeros f s p at n (Err e) zeros is got = zeros ∙ ap f (sym (part_none s p at n is got))
+
+pub le_or_zeros : {E : Type 0} (s p : List ℕ) (at n : ℕ) (r : Result (List ℕ) E) → p ≡ part_of s at n
+    → MatchResult r (λ y. IsWholeChunk p y n) (λ _. length p ≢ n) → le_of (result_unwrap_or r (replicate n 0)) ≡ le_at n s at
+unfolding le_at le_of
+le_or_zeros s p at n r is got = part_or_zeros le_of s p at n r (le_zeros n) is got
+
+pub be_or_zeros : {E : Type 0} (s p : List ℕ) (at n : ℕ) (r : Result (List ℕ) E) → p ≡ part_of s at n
+    → MatchResult r (λ y. IsWholeChunk p y n) (λ _. length p ≢ n) → be_of (result_unwrap_or r (replicate n 0)) ≡ be_at n s at
+unfolding be_at be_of le_of
+be_or_zeros s p at n r is got = part_or_zeros be_of s p at n r (le_be_zero (replicate n 0) (le_zeros n)) is got

@@ -1,13 +1,15 @@
 -- `judge`: the checks of the head, then those of the layout.
 use Rattle.lemmas.proofs.Basics.{sym, ◌∙◌}
+use Rattle.lemmas.proofs.Results.{passed_on}
 use Rattle.refusal.proofs.Chains.{stops, follows}
 use Rattle.envelope.specs.Reading.{head_checks, layout_checks, envelope_checks}
 use Rattle.envelope.proofs.judge.Goals as goal
 
-pub returns-in-Ok : goal.returns-in-Ok
+pub returns-in_err-judge_head : goal.returns-in_err-judge_head
 unfolding envelope_checks
-returns-in-Ok c = follows (head_checks _) (layout_checks _) c.judge_head.ensures c.in-Ok.is c.judge_layout.ensures
+returns-in_err-judge_head c =
+    passed_on c.from_residual.ensures.1 ∙ sym c.in_err-judge_head.was ∙ stops (head_checks _) (layout_checks _) c.judge_head.ensures c.in_err-judge_head.was
 
-pub returns-in-Err : goal.returns-in-Err
+pub returns : goal.returns
 unfolding envelope_checks
-returns-in-Err c = sym c.in-Err.is ∙ stops (head_checks _) (layout_checks _) c.judge_head.ensures c.in-Err.is
+returns c = follows (head_checks _) (layout_checks _) c.judge_head.ensures c.in_ok-judge_head.was c.judge_layout.ensures

@@ -1,9 +1,6 @@
-use Rattle.lemmas.proofs.Basics.{◌-◌, ◌≤◌, ◌≡◌}
+use Rattle.lemmas.proofs.Basics.{◌≤◌, ◌≡◌}
 use Rattle.segment.specs.Layout.{size_at, larger_than}
 use Rattle.segment.proofs.larger.Given as goal
 
 abbrev pub invariant-loop-k : goal.invariant-loop-k
-invariant-loop-k l = (l.k ≤ l.blocks) × (l.larger ≤ l.k) × (l.larger ≡ larger_than l.unit l.k (size_at l.s))
-
-abbrev pub decreases-loop-k : goal.decreases-loop-k
-decreases-loop-k l = l.blocks - l.k
+invariant-loop-k l = (l.larger ≤ l.k) × (l.larger ≡ larger_than l.unit l.k (size_at l.s))

@@ -9,8 +9,8 @@ returns-in-Some c = rw (sym c.served_by.ensures ∙ c.in-Some.is)
 
 pub returns-in-Some-served_by : goal.returns-in-Some-served_by
 unfolding prefer
-returns-in-Some-served_by c = rw (sym c.served_by.ensures ∙ c.in-None.is, sym c.served_by-in-None.ensures ∙ c.in-Some-served_by.is)
+returns-in-Some-served_by c = rw (sym c.served_by.ensures ∙ c.in_default.is, sym c.served_by-2.ensures ∙ c.in-Some-served_by.is)
 
-pub returns-in-None-served_by : goal.returns-in-None-served_by
+pub returns : goal.returns
 unfolding prefer
-returns-in-None-served_by c = rw (sym c.served_by.ensures ∙ c.in-None.is, sym c.served_by-in-None.ensures ∙ c.in-None-served_by.is)
+returns c = rw (sym c.served_by.ensures ∙ c.in_default.is, sym c.served_by-2.ensures ∙ c.in_default-served_by.is)

@@ -1,15 +1,16 @@
--- `envelope_reach`: the reader's answer is told.
+-- `envelope_reach`: the reader's refusal, or what the envelope's keys reach.
 use Rattle.lemmas.proofs.Basics.{sym, ap, ◌∙◌}
+use Rattle.lemmas.proofs.Results.{passed_on}
 use Rattle.reach.specs.Reaches.{keys_reach}
 use Rattle.serving.specs.Reach.{reach_of}
 use Rattle.serving.proofs.envelope_reach.Goals as goal
 
-pub returns-in-Ok : goal.returns-in-Ok
+pub returns-in_err-envelope : goal.returns-in_err-envelope
 unfolding reach_of
-returns-in-Ok c =
-    rw (sym c.read.ensures ∙ c.in-Ok.is)
-    (c.of.ensures ∙ ap (λ k. keys_reach k c.in-Ok.envelope.head.at) c.seed_keys_of.ensures)
+returns-in_err-envelope c = passed_on c.from_residual.ensures.1 ∙ rw (sym c.read.ensures ∙ c.in_err-envelope.was)
 
-pub returns-in-Err : goal.returns-in-Err
+pub returns : goal.returns
 unfolding reach_of
-returns-in-Err c = rw (sym c.read.ensures ∙ c.in-Err.is) c.refused.ensures
+returns c =
+    rw (sym c.read.ensures ∙ c.in_ok-envelope.was)
+    (c.of.ensures ∙ ap (λ k. keys_reach k c.in_ok-envelope.envelope.head.at) c.seed_keys_of.ensures)

@@ -3,14 +3,14 @@ use Rattle.lemmas.proofs.Basics.{sym, ◌∙◌}
 use Rattle.serving.specs.Choice.{served_by}
 use Rattle.serving.proofs.served_by.Goals as goal
 
-pub returns-then-is : goal.returns-then-is
+pub returns-in_default : goal.returns-in_default
 unfolding served_by
-returns-then-is c = rw (sym c.read.ensures ∙ c.in-Ok.is, sym c.is.ensures ∙ c.if-is.true) c.key_for.ensures
+returns-in_default c = rw (sym c.read.ensures ∙ c.in_default.is)
 
-pub returns-else-is : goal.returns-else-is
+pub returns-then-not-is : goal.returns-then-not-is
 unfolding served_by
-returns-else-is c = rw (sym c.read.ensures ∙ c.in-Ok.is, sym c.is.ensures ∙ c.if-is.false)
+returns-then-not-is c = rw (sym c.read.ensures ∙ c.in-Ok.is, sym c.is.ensures ∙ c.if-not-is.true)
 
-pub returns-in-Err : goal.returns-in-Err
+pub returns : goal.returns
 unfolding served_by
-returns-in-Err c = rw (sym c.read.ensures ∙ c.in-Err.is)
+returns c = rw (sym c.read.ensures ∙ c.in-Ok.is, sym c.is.ensures ∙ c.if-not-is.false) c.key_for.ensures

@@ -5,12 +5,12 @@ use Rattle.serving.proofs.serving_key.Goals as goal
 
 pub returns-in-Cached : goal.returns-in-Cached
 unfolding chosen_part chosen_block chosen_start
-returns-in-Cached c = rw (sym c.choose.ensures ∙ c.in-Cached.is) c.part.ensures
+returns-in-Cached c = rw (sym c.choose.ensures ∙ c.in-Ok.is, c.in-Cached.is) c.part.ensures
 
 pub returns-in-Fetched : goal.returns-in-Fetched
 unfolding chosen_part chosen_block chosen_start
-returns-in-Fetched c = rw (sym c.choose.ensures ∙ c.in-Fetched.is) c.part-in-Fetched.ensures
+returns-in-Fetched c = rw (sym c.choose.ensures ∙ c.in-Ok.is, c.in-Fetched.is) c.part-in-Fetched.ensures
 
-pub returns-in-Neither : goal.returns-in-Neither
+pub returns-in_default : goal.returns-in_default
 unfolding chosen_part chosen_block chosen_start
-returns-in-Neither c = rw (sym c.choose.ensures ∙ c.in-Neither.is) record { bytes = refl; place = (refl, omega arith) }
+returns-in_default c = rw (sym c.choose.ensures ∙ c.in_default.is) record { bytes = refl; place = (refl, omega arith) }
