@@ -1,7 +1,8 @@
 -- Document 01, "Key List Entry and list", as C has its answers: the list and its walk.
-use Rattle.std.specs.Prelude.{ℕ, Result, Ok, Err, Option, None, Some}
+use Rattle.std.specs.Prelude.{ℕ, Result}
 use Rattle.keylist.specs.declared.ListRefusal.{ListRefusal}
-use Rattle.keylist.specs.declared.Found.{Found}
+use Rattle.keylist.specs.declared.Step.{Step}
+use Rattle.keylist.specs.declared.Step.TheVariants as step
 use Rattle.keyentry.specs.Reading.{algorithm_of}
 use Rattle.keylist.specs.declared.Place.{Place}
 use Rattle.keylist.specs.declared.Advance.{Advance}
@@ -16,16 +17,16 @@ unfoldable pub list_answer : Result ℕ ListRefusal → ListAnswer
 list_answer r = record { refusal = list_number r; count = list_count r; index = list_index r }
 
 -- what a step finds: 0 on a refusal
-unfoldable pub found_code : Result (Option Found) ListRefusal → ℕ
-found_code (Ok (Some found)) = 1
-found_code (Ok None) = 2
-found_code (Err r) = 0
+unfoldable pub found_code : Step → ℕ
+found_code (step.Entry found) = 1
+found_code step.End = 2
+found_code (step.Refused r) = 0
 
 -- 0 where no entry is shown
-unfoldable pub step_algorithm : Result (Option Found) ListRefusal → ℕ
-step_algorithm (Ok (Some found)) = algorithm_code (algorithm_of found.entry.flags)
-step_algorithm (Ok None) = 0
-step_algorithm (Err r) = 0
+unfoldable pub step_algorithm : Step → ℕ
+step_algorithm (step.Entry found) = algorithm_code (algorithm_of found.entry.flags)
+step_algorithm step.End = 0
+step_algorithm (step.Refused r) = 0
 
 -- what a step shows, and the place after it: at the end and on a refusal that is the place asked at
 unfoldable pub step_answer : Advance → StepAnswer

@@ -7,7 +7,7 @@ ghost use Rattle.face_entries.specs.Lists.{list_answer, step_answer, no_entry};
 
 use face::Part;
 use keyentry::{Algorithm, Entry};
-use keylist::{Advance, ListRefusal, Place};
+use keylist::{Advance, ListRefusal, Place, Step};
 use refusal::Refusal;
 
 // An entry. Its algorithm is 1 for RSA, 2 for AES-256, 3 for one that is not supported.
@@ -59,8 +59,8 @@ impl From<Entry> for EntryAnswer {
             algorithm: algorithm_code(entry.algorithm()),
             flags: entry.flags,
             reserved: 0,
-            item: entry.item.into(),
-            fek: entry.fek.into(),
+            item: Part::from(entry.item),
+            fek: Part::from(entry.fek),
         }
     }
 }
@@ -109,7 +109,7 @@ impl From<Advance> for StepAnswer {
     fn from(advance: Advance) -> StepAnswer {
         let next = advance.place;
         match advance.step {
-            Ok(Some(found)) => {
+            Step::Entry(found) => {
                 let entry = found.entry;
                 StepAnswer {
                     refusal: 0,
@@ -120,12 +120,12 @@ impl From<Advance> for StepAnswer {
                     next_index: next.index,
                     next_at: next.at,
                     at: found.at,
-                    item: entry.item.into(),
-                    fek: entry.fek.into(),
+                    item: Part::from(entry.item),
+                    fek: Part::from(entry.fek),
                 }
             }
-            Ok(None) => no_entry(0, 2, 0, next),
-            Err(refused) => no_entry(refused.refusal.number(), 0, refused.index, next),
+            Step::End => no_entry(0, 2, 0, next),
+            Step::Refused(refused) => no_entry(refused.refusal.number(), 0, refused.index, next),
         }
     }
 }
@@ -148,6 +148,7 @@ fn no_entry(refusal: u32, found: u32, index: u32, next: Place) -> StepAnswer
     }
 }
 
+// Codes of the C interface.
 #[tactic(auto, unfolding(crate::specs::Entries::algorithm_code))]
 fn algorithm_code(algorithm: Algorithm) -> u32
     ensures { result ≡ algorithm_code algorithm }

@@ -1,6 +1,6 @@
 -- Laws of a step: what each of its tests makes of it, and what it leaves to the steps after it.
 use Rattle.lemmas.proofs.Basics.{ℕ, suc, ◌+◌, ◌-◌, ◌≤◌, ◌<◌, arith, cond, List, ◌≡◌, refl, sym, ap, subst, ◌∙◌, ltb, eqb, length, lt-ltb, le-ltb, ltb-true, ltb-false}
-use Rattle.std.specs.Prelude.{Result, Ok, Err, Option, None, Some}
+use Rattle.std.specs.Prelude.{Result, Ok, Err}
 use Rattle.keylist.specs.declared.ListRefusal.{ListRefusal}
 use Rattle.refusal.specs.Outcome.{Outcome}
 use Rattle.refusal.specs.declared.Refusal.{Refusal}
@@ -17,26 +17,28 @@ use Rattle.keyentry.specs.declared.EntryPart.{EntryPart}
 use Rattle.keyentry.specs.Reading.{entry_checks, shown, entry_of, span_of, entry_part}
 use Rattle.keyentry.proofs.Reading.{accepted-shown, refused_checks, pass_shown, part_inside}
 use Rattle.keylist.specs.declared.Place.{Place}
+use Rattle.keylist.specs.declared.Step.{Step}
+use Rattle.keylist.specs.declared.Step.TheVariants as step
 use Rattle.keylist.specs.declared.Found.{Found}
 use Rattle.keylist.specs.declared.Advance.{Advance}
 use Rattle.keylist.specs.Reading.{count_of, list_checks, length_at, record_at, extent_checks, extent_of, bounds_number, bounds_span, place_checks, refused_at, entries_from}
 use Rattle.keylist.specs.Passing.{entry_at}
-use Rattle.keylist.specs.Stepping.{found_at, end_at, entry_step, step_of, place_after, arrived, advance_of, step_span, list_span, list_part}
+use Rattle.keylist.specs.Stepping.{found_at, stopped, end_at, entry_step, step_of, place_after, arrived, advance_of, step_span, list_span, list_part}
 
 -- the step of an outcome
-abbrev step_unless : Outcome → ℕ → Result (Option Found) ListRefusal → Result (Option Found) ListRefusal
-step_unless o index found = unless_refused (refused_at index) o found
+abbrev step_unless : Outcome → ℕ → Step → Step
+step_unless o index found = unless_refused (stopped index) o found
 
-refused_step : {o : Outcome} {r : Refusal} (index : ℕ) (found : Result (Option Found) ListRefusal) → o ≡ Err r → step_unless o index found ≡ refused_at index r
+refused_step : {o : Outcome} {r : Refusal} (index : ℕ) (found : Step) → o ≡ Err r → step_unless o index found ≡ stopped index r
 unfolding unless_refused
 refused_step index found e = rw e
 
 -- 1 and 2 of the whole list, and neither.
-pub step_long : (s : List ℕ) (p : Place) → 65535 < length s → step_of s p ≡ refused_at 0 TooLong
+pub step_long : (s : List ℕ) (p : Place) → 65535 < length s → step_of s p ≡ stopped 0 TooLong
 unfolding step_of list_checks
 step_long s p h = refused_step 0 _ (first_here _ _ _ (lt-ltb 65535 (length s) h))
 
-pub step_short : (s : List ℕ) (p : Place) → length s ≤ 65535 → length s < 4 → step_of s p ≡ refused_at 0 Short
+pub step_short : (s : List ℕ) (p : Place) → length s ≤ 65535 → length s < 4 → step_of s p ≡ stopped 0 Short
 unfolding step_of list_checks
 step_short s p l h = refused_step 0 _ (first_next _ _ _ (le-ltb 65535 (length s) l) ∙ first_here _ _ _ (lt-ltb (length s) 4 h))
 
@@ -131,14 +133,14 @@ entry_lies s at e len h =
 
 -- the step that this is: the entry, or the refusal given for it
 abbrev pub stepped_in : Place → Result (Entry × ℕ) Refusal → Advance
-stepped_in p (Ok (e, len)) = record { step = Ok (Some (record { index = p.index; at = p.at; entry = e })); place = record { at = p.at + len; index = p.index + 1 } }
-stepped_in p (Err r) = record { step = refused_at p.index r; place = p }
+stepped_in p (Ok (e, len)) = record { step = step.Entry (record { index = p.index; at = p.at; entry = e }); place = record { at = p.at + len; index = p.index + 1 } }
+stepped_in p (Err r) = record { step = stopped p.index r; place = p }
 
 pub step_entered : (s : List ℕ) (p : Place) → length s ≤ 65535 → 4 ≤ length s → p.index < count_of s → {e : Result (Entry × ℕ) Refusal} → e ≡ entry_at s p.at → stepped_in p e ≡ advance_of s p
 unfolding arrived entry_step entry_at unless_refused place_after found_at
 step_entered s p l h i e = ap (stepped_in p) e ∙ told (first_of (place_checks s p.at)) ∙ sym (ap (arrived s p) (step_entry s p l h i))
   where
-    told : (o : Outcome) → stepped_in p (unless_refused Err o (Ok (shown (record_at s p.at), length_at s p.at))) ≡ arrived s p (step_unless o p.index (Ok (Some (found_at s p))))
+    told : (o : Outcome) → stepped_in p (unless_refused Err o (Ok (shown (record_at s p.at), length_at s p.at))) ≡ arrived s p (step_unless o p.index (step.Entry (found_at s p)))
     told (Ok tt) = refl
     told (Err r) = refl
 
@@ -156,10 +158,10 @@ pub record Past (o : Outcome) (s : List ℕ) (p : Place) (f : Found) (q : Place)
   pub rest : resumed o s p ≡ resumed o s q
 
 -- what a step says of what is left
-abbrev pub Says : Outcome → List ℕ → Place → Result (Option Found) ListRefusal → Place → Type 0
-Says o s p (Ok (Some f)) q = Past o s p f q
-Says o s p (Ok None) q = resumed o s p ≡ Ok p.index
-Says o s p (Err r) q = resumed o s p ≡ Err r
+abbrev pub Says : Outcome → List ℕ → Place → Step → Place → Type 0
+Says o s p (step.Entry f) q = Past o s p f q
+Says o s p step.End q = resumed o s p ≡ Ok p.index
+Says o s p (step.Refused r) q = resumed o s p ≡ Err r
 
 one_left : (n m : ℕ) → m < n → n - m ≡ suc (n - (m + 1))
 one_left n m h = omega arith
@@ -178,7 +180,7 @@ unfolding entries_from unless_refused
 turn_on s at index e len h told = let lies = entry_lies s at e len told in rw (one_left (count_of s) index h, lies.1, ap (λ x. x.len) lies.0.is)
 
 says_entry : (s : List ℕ) (p : Place) → p.index < count_of s → (o : Outcome) → first_of (place_checks s p.at) ≡ o
-    → Says (Ok tt) s p (step_unless o p.index (Ok (Some (found_at s p)))) (place_after (step_unless o p.index (Ok (Some (found_at s p)))) s p)
+    → Says (Ok tt) s p (step_unless o p.index (step.Entry (found_at s p))) (place_after (step_unless o p.index (step.Entry (found_at s p))) s p)
 unfolding place_after resumed unless_refused entries_from found_at place_checks
 says_entry s p h (Ok tt) e =
     record {
@@ -214,8 +216,8 @@ stepped s p a e = subst (λ x. Says (first_of (list_checks s)) s p x.step x.plac
 
 -- A part of an entry that was found lies inside the list, and is that part of the entry's own record.
 stands : {o : Outcome} {s : List ℕ} {p q : Place} {f : Found} → Past o s p f q → (which : EntryPart)
-    → ((step_span (Ok (Some f)) which).at + (step_span (Ok (Some f)) which).len ≤ length s)
-    × (part_of s (step_span (Ok (Some f)) which).at (step_span (Ok (Some f)) which).len ≡ entry_part (record_at s p.at) which)
+    → ((step_span (step.Entry f) which).at + (step_span (step.Entry f) which).len ≤ length s)
+    × (part_of s (step_span (step.Entry f) which).at (step_span (step.Entry f) which).len ≡ entry_part (record_at s p.at) which)
 unfolding step_span found_at
 stands {s = s} {p = p} {f = f} past which =
     let span = span_of (Ok f.entry) which in
@@ -230,11 +232,11 @@ pub span_inside : (s : List ℕ) (p : Place) (which : EntryPart) → (list_span 
 unfolding step_span arrived
 span_inside s p which = told (step_of s p) (stepped s p (advance_of s p) refl)
   where
-    told : (t : Result (Option Found) ListRefusal) → Says (first_of (list_checks s)) s p t (place_after t s p) → (step_span t which).at + (step_span t which).len ≤ length s
-    told (Ok (Some f)) past = (stands past which).0
-    told (Ok None) said = omega arith
-    told (Err r) said = omega arith
+    told : (t : Step) → Says (first_of (list_checks s)) s p t (place_after t s p) → (step_span t which).at + (step_span t which).len ≤ length s
+    told (step.Entry f) past = (stands past which).0
+    told step.End said = omega arith
+    told (step.Refused r) said = omega arith
 
-pub part_own : (s : List ℕ) (p : Place) (f : Found) (which : EntryPart) → step_of s p ≡ Ok (Some f) → list_part s p which ≡ entry_part (record_at s p.at) which
+pub part_own : (s : List ℕ) (p : Place) (f : Found) (which : EntryPart) → step_of s p ≡ step.Entry f → list_part s p which ≡ entry_part (record_at s p.at) which
 unfolding arrived
 part_own s p f which e = rw e (stands (subst (λ t. Says (first_of (list_checks s)) s p t (place_after t s p)) e (stepped s p (advance_of s p) refl)) which).1

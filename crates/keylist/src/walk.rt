@@ -5,7 +5,8 @@ ghost use Rattle.keylist.specs.Walking.{walk_at, advanced, walked_on};
 
 use crate::{Place, Step, next_step};
 
-// A walk: the lent list, and the place of the next entry.
+// A walk: the lent list, and the place of the next entry. It is no Iterator, which is no plainer: past a refusal that would have to end, and a
+// walk answers the refusal again.
 #[derive(Debug, PartialEq, Eq, Drop)]
 pub struct Walk<'a> {
     list: &'a [u8],

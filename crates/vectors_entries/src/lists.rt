@@ -2,9 +2,8 @@
 use crate::{entries, print};
 use keyentry::EntryPart;
 use keylist::walk::Walk;
-use keylist::{Found, ListRefusal, Place};
+use keylist::{ListRefusal, Place, Step};
 use line::{Line, Text};
-use refusal::Refusal;
 use std::io;
 
 // The head of a sound entry of 25 bytes, whose item of 4 is at 20 and whose FEK of 1 is at 24.
@@ -212,38 +211,21 @@ fn hold(rt: &impl Print, name: &[u8], len: usize, count: u32, second: [u32; 5]) 
 }
 
 // What one walk answers when it is asked four times.
-#[derive(Clone, Copy)]
-struct Asked {
-    one: Result<Option<Found>, ListRefusal>,
-    two: Result<Option<Found>, ListRefusal>,
-    three: Result<Option<Found>, ListRefusal>,
-    four: Result<Option<Found>, ListRefusal>,
-}
-
-fn ask(list: &[u8]) -> Asked {
+fn ask(list: &[u8]) -> [Step; 4] {
     let mut walk = Walk::over(list);
-    let one = walk.next();
-    let two = walk.next();
-    let three = walk.next();
-    let four = walk.next();
-    Asked {
-        one,
-        two,
-        three,
-        four,
-    }
+    [walk.next(), walk.next(), walk.next(), walk.next()]
 }
 
-fn told(line: &mut Line, asked: Asked) {
-    for step in [asked.one, asked.two, asked.three, asked.four] {
+fn told(line: &mut Line, asked: [Step; 4]) {
+    for step in asked {
         line.text(b" ");
         found(line, step);
     }
 }
 
-fn found(line: &mut Line, step: Result<Option<Found>, ListRefusal>) {
+fn found(line: &mut Line, step: Step) {
     match step {
-        Ok(Some(found)) => {
+        Step::Entry(found) => {
             let entry = found.entry;
             line.text(b"ENTRY ");
             line.number(found.index as u64);
@@ -252,8 +234,8 @@ fn found(line: &mut Line, step: Result<Option<Found>, ListRefusal>) {
             line.text(b" ");
             entries::shown(line, entry);
         }
-        Ok(None) => line.text(b"END"),
-        Err(told) => refused(line, told),
+        Step::End => line.text(b"END"),
+        Step::Refused(told) => refused(line, told),
     }
 }
 
