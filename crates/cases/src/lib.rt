@@ -4,11 +4,11 @@
 
 ghost use Rattle.std.specs.Prelude.{◌≡◌};
 ghost use Rattle.wire.specs.Parts.{part_of, le32_bytes};
-ghost use Rattle.line.specs.Text.{text_of, behind};
+ghost use Rattle.line.specs.Text.{put};
 ghost use Rattle.cases.specs.Building.{put_at, entry_put, envelope_put};
 ghost use Rattle.cases.specs.Comparing.{compared_word, kept_word};
 
-use line::Line;
+use line::Text;
 use wire::Span;
 
 // What a writer's output is filled with beforehand.
@@ -61,23 +61,25 @@ pub fn envelope(dst: &mut [u8], front: [u32; 6], root: &[u8], lengths: [u32; 10]
 }
 
 // SAME where two slices have the same bytes, else OTHER.
-pub fn compared(line: Line, a: &[u8], b: &[u8]) -> Line
-    ensures { text_of result ≡ behind (text_of line) (compared_word a.now b.now) }
+pub fn compared<T: Text>(out: &mut T, a: &[u8], b: &[u8])
+    ensures put { T.buffer out.new ≡ put (T.buffer out.old) (compared_word a.now b.now) }
+    ensures lender { T.lender out.new ≡ T.lender out.old }
 {
     if a == b {
-        line.text(b"SAME")
+        out.text(b"SAME");
     } else {
-        line.text(b"OTHER")
+        out.text(b"OTHER");
     }
 }
 
 // KEPT where an output's bytes from `len` on are those from before, else CHANGED.
-pub fn kept(line: Line, before: &[u8], out: &[u8], len: usize) -> Line
-    ensures { text_of result ≡ behind (text_of line) (kept_word before.now out.now len) }
+pub fn kept<T: Text>(out: &mut T, before: &[u8], after: &[u8], len: usize)
+    ensures put { T.buffer out.new ≡ put (T.buffer out.old) (kept_word before.now after.now len) }
+    ensures lender { T.lender out.new ≡ T.lender out.old }
 {
-    if wire::rest(before, len) == wire::rest(out, len) {
-        line.text(b"KEPT")
+    if wire::rest(before, len) == wire::rest(after, len) {
+        out.text(b"KEPT");
     } else {
-        line.text(b"CHANGED")
+        out.text(b"CHANGED");
     }
 }

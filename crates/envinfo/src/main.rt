@@ -10,7 +10,7 @@ ghost use Rattle.line.specs.Text.{text_of};
 ghost use Rattle.envline.specs.Line.{line_of};
 
 use input::Input;
-use line::{Line, ROOM};
+use line::Line;
 use std::fmt;
 use std::io::{Read, Write};
 use std::process::ExitCode;
@@ -59,9 +59,7 @@ fn print<W: Write>(to: &mut W, line: Line) -> Result<(), Failure>
     ensures written { OnOk result (Appends (W.contents to.old) (W.contents to.new) (text_of line)) }
     ensures failed { OnErr result (result ≡ Err Failure.Write) }
 {
-    let bytes = line.bytes;
-    let len = line.len.min(ROOM);
-    match to.write_all(&bytes[..len]) {
+    match to.write_all(line.as_bytes()) {
         Ok(()) => Ok(()),
         Err(_) => Err(Failure::Write),
     }

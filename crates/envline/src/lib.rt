@@ -3,40 +3,48 @@
 
 ghost use Rattle.std.specs.Prelude.{◌≡◌};
 ghost use Rattle.envelope.specs.Reading.{envelope_of};
-ghost use Rattle.line.specs.Text.{text_of, laid};
+ghost use Rattle.line.specs.Text.{text_of, put_all};
 ghost use Rattle.envline.specs.Line.{envelope_words, line_words, line_of};
 
 use envelope::{Envelope, EnvelopeRead};
-use line::Line;
+use line::{Line, Text};
 use reach::Reach;
 
 // The line for an envelope, newline-ended.
 pub fn line_of(s: &[u8]) -> Line
     ensures { text_of result ≡ line_of (envelope_of s.now) }
 {
-    shown(Line::new(), s).text(b"\n")
+    let mut line = Line::new();
+    shown(&mut line, s);
+    line.text(b"\n");
+    line
 }
 
-// The words for an envelope, put behind a line: ENV, its identifier, the word for its keys and its reach total; or REFUSED and the
-// number.
-pub fn shown(line: Line, s: &[u8]) -> Line
-    ensures { text_of result ≡ laid (text_of line) (line_words (envelope_of s.now)) }
+// The words for an envelope: ENV, its identifier, the word for its keys and its reach total; or REFUSED and the number.
+#[tactic(auto, unfolding(crate::specs::Line::line_words))]
+pub fn shown<T: Text>(out: &mut T, s: &[u8])
+    ensures put { T.buffer out.new ≡ put_all (T.buffer out.old) (line_words (envelope_of s.now)) }
+    ensures lender { T.lender out.new ≡ T.lender out.old }
 {
     match envelope::read(s) {
-        Ok(envelope) => accepted(line, envelope),
-        Err(refusal) => words::refused(line, refusal),
+        Ok(envelope) => accepted(out, envelope),
+        Err(refusal) => words::refused(out, refusal),
     }
 }
 
-fn accepted(line: Line, envelope: Envelope) -> Line
-    ensures { text_of result ≡ laid (text_of line) (envelope_words envelope) }
+#[tactic(auto, unfolding(line::specs::Text::put_all, words::specs::Words::identifier_words, crate::specs::Line::envelope_words))]
+fn accepted<T: Text>(out: &mut T, envelope: Envelope)
+    ensures put { T.buffer out.new ≡ put_all (T.buffer out.old) (envelope_words envelope) }
+    ensures lender { T.lender out.new ≡ T.lender out.old }
 {
     let head = envelope.head;
     let at = head.at;
     let form = envelope::form_of(envelope);
     let total = Reach::of(form.keys(), at).total();
-    let identified = words::identifier(line.text(b"ENV "), at);
-    words::form(identified.text(b" "), form)
-        .text(b" ")
-        .number(total as u64)
+    out.text(b"ENV ");
+    words::identifier(out, at);
+    out.text(b" ");
+    words::form(out, form);
+    out.text(b" ");
+    out.number(total as u64);
 }

@@ -1,6 +1,6 @@
 -- The shapes of the C face that several answers and arguments share.
 use Rattle.wire.specs.declared.Span.{Span}
-use Rattle.std.specs.Prelude.{Result}
+use Rattle.std.specs.Prelude.{ℕ, Result}
 use Rattle.refusal.specs.declared.Refusal.{Refusal}
 use Rattle.gkid.specs.declared.Gkid.{Gkid}
 use Rattle.gkid.specs.Identifier as id

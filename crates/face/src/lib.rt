@@ -8,7 +8,7 @@ ghost use Rattle.face.specs.Shapes.{part_shown, identifier_shown, gkid_from, roo
 
 use gkid::{Gkid, L0, L1, L2};
 use keys::Form;
-use records::Written;
+use refusal::Refusal;
 use rootid::RootId;
 use wire::Span;
 
@@ -17,7 +17,7 @@ pub const VERSION: u32 = 5;
 
 // A place in the caller's own bytes.
 #[repr(C)]
-#[derive(Clone, Copy)]
+#[derive(Clone, Copy, Debug, PartialEq, Eq)]
 pub struct Part {
     pub at: usize,
     pub len: usize,
@@ -25,7 +25,7 @@ pub struct Part {
 
 // A group key identifier.
 #[repr(C)]
-#[derive(Clone, Copy)]
+#[derive(Clone, Copy, Debug, PartialEq, Eq)]
 pub struct Identifier {
     pub l0: u32,
     pub l1: u32,
@@ -34,81 +34,93 @@ pub struct Identifier {
 
 // A root key identifier, its 16 bytes as they stand in a record and in a table row.
 #[repr(C)]
-#[derive(Clone, Copy)]
+#[derive(Clone, Copy, Debug, PartialEq, Eq)]
 pub struct RootBytes {
     pub bytes: [u8; 16],
 }
 
 // What a writer answers: the record's length.
 #[repr(C)]
-#[derive(Clone, Copy)]
+#[derive(Clone, Copy, Debug, PartialEq, Eq)]
 pub struct WrittenAnswer {
     pub refusal: u32,
     pub reserved: u32,
     pub len: usize,
 }
 
-pub fn to_part(span: Span) -> Part
-    ensures { result ≡ part_shown span }
-{
-    Part {
-        at: span.at,
-        len: span.len,
+impl From<Span> for Part {
+    ghost from_gives = { λ span part. part ≡ part_shown span };
+
+    fn from(span: Span) -> Part {
+        Part {
+            at: span.at,
+            len: span.len,
+        }
     }
 }
 
-pub fn to_identifier(at: Gkid) -> Identifier
-    ensures { result ≡ identifier_shown at }
-{
-    Identifier {
-        l0: at.l0.0,
-        l1: at.l1.0,
-        l2: at.l2.0,
+impl From<Gkid> for Identifier {
+    ghost from_gives = { λ at shown. shown ≡ identifier_shown at };
+
+    fn from(at: Gkid) -> Identifier {
+        Identifier {
+            l0: at.l0.0,
+            l1: at.l1.0,
+            l2: at.l2.0,
+        }
     }
 }
 
-pub fn to_gkid(at: Identifier) -> Gkid
-    ensures { result ≡ gkid_from at }
-{
-    Gkid {
-        l0: L0(at.l0),
-        l1: L1(at.l1),
-        l2: L2(at.l2),
+impl From<Identifier> for Gkid {
+    ghost from_gives = { λ shown at. at ≡ gkid_from shown };
+
+    fn from(at: Identifier) -> Gkid {
+        Gkid {
+            l0: L0(at.l0),
+            l1: L1(at.l1),
+            l2: L2(at.l2),
+        }
     }
 }
 
-pub fn to_root(id: RootBytes) -> RootId
-    ensures { result ≡ root_id_from id }
-{
-    let bytes = id.bytes;
-    RootId::at(&bytes, 0)
-}
+impl From<RootBytes> for RootId {
+    ghost from_gives = { λ shown root. root ≡ root_id_from shown };
 
-pub fn to_bytes(root: RootId) -> RootBytes
-    ensures { result ≡ root_shown root }
-{
-    let mut bytes = [0u8; 16];
-    root.put(&mut bytes);
-    RootBytes { bytes }
-}
-
-pub fn to_written(answer: Written) -> WrittenAnswer
-    ensures { result ≡ written_answer answer }
-{
-    match answer {
-        Ok(len) => WrittenAnswer {
-            refusal: 0,
-            reserved: 0,
-            len,
-        },
-        Err(refusal) => WrittenAnswer {
-            refusal: refusal.number(),
-            reserved: 0,
-            len: 0,
-        },
+    fn from(root: RootBytes) -> RootId {
+        RootId::at(&root.bytes, 0)
     }
 }
 
+impl From<RootId> for RootBytes {
+    ghost from_gives = { λ root shown. shown ≡ root_shown root };
+
+    fn from(root: RootId) -> RootBytes {
+        let mut bytes = [0; 16];
+        root.put(&mut bytes);
+        RootBytes { bytes }
+    }
+}
+
+impl From<Result<usize, Refusal>> for WrittenAnswer {
+    ghost from_gives = { λ written answer. answer ≡ written_answer written };
+
+    fn from(written: Result<usize, Refusal>) -> WrittenAnswer {
+        match written {
+            Ok(len) => WrittenAnswer {
+                refusal: 0,
+                reserved: 0,
+                len,
+            },
+            Err(refusal) => WrittenAnswer {
+                refusal: refusal.number(),
+                reserved: 0,
+                len: 0,
+            },
+        }
+    }
+}
+
+// A form's code. The C interface needs numbers, and neither type is of this crate, so that this is no `From`.
 pub fn form_code(form: Form) -> u32
     ensures { result ≡ form_code form }
 {
@@ -121,6 +133,7 @@ pub fn form_code(form: Form) -> u32
     }
 }
 
+// The form that a code names.
 pub fn form_from(code: u32) -> Form
     ensures { result ≡ form_from code }
 {
@@ -139,8 +152,9 @@ pub fn form_from(code: u32) -> Form
     Form::Keyless
 }
 
+// Yes is 1.
 pub fn bool_code(yes: bool) -> u32
     ensures { result ≡ bool_code yes }
 {
-    if yes { 1 } else { 0 }
+    u32::from(yes)
 }

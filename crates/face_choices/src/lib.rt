@@ -5,15 +5,14 @@ ghost use Rattle.std.specs.Prelude.{◌≡◌};
 ghost use Rattle.face.specs.Shapes.{part_shown};
 ghost use Rattle.face_choices.specs.Choices.{key_code, reach_answer, choice_answer};
 
-use face::{Part, to_part};
+use face::Part;
 use reach::Reach;
 use refusal::Refusal;
-use serving::{Choice, SeedKey};
-use wire::Span;
+use serving::{Choice, SeedKey, Serving};
 
 // A reach: the map, index 0 the most significant bit of a row, and the number of set bits.
 #[repr(C)]
-#[derive(Clone, Copy)]
+#[derive(Clone, Copy, Debug, PartialEq, Eq)]
 pub struct ReachAnswer {
     pub refusal: u32,
     pub total: u32,
@@ -23,7 +22,7 @@ pub struct ReachAnswer {
 // Which envelope serves, 1 for the cached one, 2 for the fetched one; by which key, 1 for the L1 key, 2 for the L2 key; and where
 // that key stands in that envelope.
 #[repr(C)]
-#[derive(Clone, Copy)]
+#[derive(Clone, Copy, Debug, PartialEq, Eq)]
 pub struct ChoiceAnswer {
     pub refusal: u32,
     pub which: u32,
@@ -32,45 +31,58 @@ pub struct ChoiceAnswer {
     pub place: Part,
 }
 
-pub fn reach_answer(reach: Reach) -> ReachAnswer
-    ensures { result ≡ reach_answer reach }
-{
-    ReachAnswer {
-        refusal: reach.number(),
-        total: reach.total(),
-        rows: reach.rows(),
+// A refusal shows zeros.
+impl From<Result<Reach, Refusal>> for ReachAnswer {
+    ghost from_gives = { λ reach answer. answer ≡ reach_answer reach };
+
+    fn from(reach: Result<Reach, Refusal>) -> ReachAnswer {
+        match reach {
+            Ok(reach) => ReachAnswer {
+                refusal: 0,
+                total: reach.total(),
+                rows: reach.rows(),
+            },
+            Err(refusal) => ReachAnswer {
+                refusal: refusal.number(),
+                total: 0,
+                rows: [0; 32],
+            },
+        }
     }
 }
 
-pub fn choice_answer(choice: Choice) -> ChoiceAnswer
-    ensures { result ≡ choice_answer choice }
-{
-    match choice {
-        Choice::Cached(key, span) => chosen_at(1, key, span),
-        Choice::Fetched(key, span) => chosen_at(2, key, span),
-        Choice::Neither => ChoiceAnswer {
-            refusal: Refusal::NeitherServes.number(),
-            which: 0,
-            key: 0,
-            reserved: 0,
-            place: Part { at: 0, len: 0 },
-        },
+impl From<Result<Choice, Refusal>> for ChoiceAnswer {
+    ghost from_gives = { λ choice answer. answer ≡ choice_answer choice };
+
+    fn from(choice: Result<Choice, Refusal>) -> ChoiceAnswer {
+        match choice {
+            Ok(Choice::Cached(serving)) => chosen(1, serving),
+            Ok(Choice::Fetched(serving)) => chosen(2, serving),
+            Err(refusal) => ChoiceAnswer {
+                refusal: refusal.number(),
+                which: 0,
+                key: 0,
+                reserved: 0,
+                place: Part { at: 0, len: 0 },
+            },
+        }
     }
 }
 
 // The envelope that serves, the key by which it does, and where that stands.
-fn chosen_at(which: u32, key: SeedKey, span: Span) -> ChoiceAnswer
-    ensures { result ≡ record { refusal = 0; which = which; key = key_code key; reserved = 0; place = part_shown span } }
+fn chosen(which: u32, serving: Serving) -> ChoiceAnswer
+    ensures { result ≡ record { refusal = 0; which = which; key = key_code serving.key; reserved = 0; place = part_shown serving.place } }
 {
     ChoiceAnswer {
         refusal: 0,
         which,
-        key: key_code(key),
+        key: key_code(serving.key),
         reserved: 0,
-        place: to_part(span),
+        place: serving.place.into(),
     }
 }
 
+// The C interface needs a number, and neither type is of this crate, so that this is no `From`.
 fn key_code(key: SeedKey) -> u32
     ensures { result ≡ key_code key }
 {

@@ -1,5 +1,5 @@
 -- Document 01, "Key List Entry and list", as C has its answers: the list and its walk.
-use Rattle.std.specs.Prelude.{ℕ, Result, Ok, Option, None, Some}
+use Rattle.std.specs.Prelude.{ℕ, Result, Ok, Err, Option, None, Some}
 use Rattle.keylist.specs.declared.ListRefusal.{ListRefusal}
 use Rattle.keylist.specs.declared.Found.{Found}
 use Rattle.keyentry.specs.Reading.{algorithm_of}
@@ -19,13 +19,13 @@ list_answer r = record { refusal = list_number r; count = list_count r; index = 
 unfoldable pub found_code : Result (Option Found) ListRefusal → ℕ
 found_code (Ok (Some found)) = 1
 found_code (Ok None) = 2
-found_code (ErrAt r index) = 0
+found_code (Err r) = 0
 
 -- 0 where no entry is shown
 unfoldable pub step_algorithm : Result (Option Found) ListRefusal → ℕ
 step_algorithm (Ok (Some found)) = algorithm_code (algorithm_of found.entry.flags)
 step_algorithm (Ok None) = 0
-step_algorithm (ErrAt r index) = 0
+step_algorithm (Err r) = 0
 
 -- what a step shows, and the place after it: at the end and on a refusal that is the place asked at
 unfoldable pub step_answer : Advance → StepAnswer

@@ -2,18 +2,17 @@
 #![tactic(auto)]
 
 ghost use Rattle.std.specs.Prelude.{◌≡◌};
-ghost use Rattle.keyentry.specs.declared.EntryRead.TheVariants as read;
 ghost use Rattle.face_entries.specs.Entries.{algorithm_code, entry_answer};
 ghost use Rattle.face_entries.specs.Lists.{list_answer, step_answer, no_entry};
 
 use face::{Part, to_part};
 use keyentry::{Algorithm, Entry};
-use keylist::{Advance, ListRead, Place, Step};
+use keylist::{Advance, ListRefusal, Place};
 use refusal::Refusal;
 
 // An entry. Its algorithm is 1 for RSA, 2 for AES-256, 3 for one that is not supported.
 #[repr(C)]
-#[derive(Clone, Copy)]
+#[derive(Clone, Copy, Debug, PartialEq, Eq)]
 pub struct EntryAnswer {
     pub refusal: u32,
     pub algorithm: u32,
@@ -25,7 +24,7 @@ pub struct EntryAnswer {
 
 // A list: its count; or the refusal, with the index of the entry that it is given for.
 #[repr(C)]
-#[derive(Clone, Copy)]
+#[derive(Clone, Copy, Debug, PartialEq, Eq)]
 pub struct ListAnswer {
     pub refusal: u32,
     pub count: u32,
@@ -35,7 +34,7 @@ pub struct ListAnswer {
 // A step: found is 1 for an entry, 2 for the end. The entry's parts count from its first byte, which is at `at` in the list. The
 // next place is the one behind the entry; at the end and on a refusal it is the place asked at.
 #[repr(C)]
-#[derive(Clone, Copy)]
+#[derive(Clone, Copy, Debug, PartialEq, Eq)]
 pub struct StepAnswer {
     pub refusal: u32,
     pub found: u32,
@@ -49,74 +48,75 @@ pub struct StepAnswer {
     pub fek: Part,
 }
 
-// Accepted: what the entry shows.
-pub fn entry_answer(entry: Entry) -> EntryAnswer
-    ensures { result ≡ entry_answer (read.Accepted entry) }
-{
-    EntryAnswer {
-        refusal: 0,
-        algorithm: algorithm_code(entry.algorithm()),
-        flags: entry.flags,
-        reserved: 0,
-        item: to_part(entry.item),
-        fek: to_part(entry.fek),
-    }
-}
+// Accepted: what the entry shows. Refused: the number, and zeros.
+impl From<Result<Entry, Refusal>> for EntryAnswer {
+    ghost from_gives = { λ read answer. answer ≡ entry_answer read };
 
-// Refused: the number, and zeros.
-pub fn entry_refused(refusal: Refusal) -> EntryAnswer
-    ensures { result ≡ entry_answer (read.Refused refusal) }
-{
-    EntryAnswer {
-        refusal: refusal.number(),
-        algorithm: 0,
-        flags: 0,
-        reserved: 0,
-        item: Part { at: 0, len: 0 },
-        fek: Part { at: 0, len: 0 },
-    }
-}
-
-pub fn list_answer(read: ListRead) -> ListAnswer
-    ensures { result ≡ list_answer read }
-{
-    match read {
-        Ok(count) => ListAnswer {
-            refusal: 0,
-            count,
-            index: 0,
-        },
-        ErrAt(refusal, index) => ListAnswer {
-            refusal: refusal.number(),
-            count: 0,
-            index,
-        },
-    }
-}
-
-pub fn step_answer(advance: Advance) -> StepAnswer
-    ensures { result ≡ step_answer advance }
-{
-    let step = advance.step;
-    let next = advance.place;
-    match step {
-        Ok(Some(found)) => {
-            let entry = found.entry;
-            StepAnswer {
+    fn from(read: Result<Entry, Refusal>) -> EntryAnswer {
+        match read {
+            Ok(entry) => EntryAnswer {
                 refusal: 0,
-                found: 1,
-                index: found.index,
                 algorithm: algorithm_code(entry.algorithm()),
                 flags: entry.flags,
-                next_index: next.index,
-                next_at: next.at,
-                at: found.at,
+                reserved: 0,
                 item: to_part(entry.item),
                 fek: to_part(entry.fek),
-            }
+            },
+            Err(refusal) => EntryAnswer {
+                refusal: refusal.number(),
+                algorithm: 0,
+                flags: 0,
+                reserved: 0,
+                item: Part { at: 0, len: 0 },
+                fek: Part { at: 0, len: 0 },
+            },
         }
-        Ok(None) => no_entry(0, 2, 0, next),
-        ErrAt(refusal, told) => no_entry(refusal.number(), 0, told, next),
+    }
+}
+
+impl From<Result<u32, ListRefusal>> for ListAnswer {
+    ghost from_gives = { λ read answer. answer ≡ list_answer read };
+
+    fn from(read: Result<u32, ListRefusal>) -> ListAnswer {
+        match read {
+            Ok(count) => ListAnswer {
+                refusal: 0,
+                count,
+                index: 0,
+            },
+            Err(refused) => ListAnswer {
+                refusal: refused.refusal.number(),
+                count: 0,
+                index: refused.index,
+            },
+        }
+    }
+}
+
+impl From<Advance> for StepAnswer {
+    ghost from_gives = { λ advance answer. answer ≡ step_answer advance };
+
+    fn from(advance: Advance) -> StepAnswer {
+        let next = advance.place;
+        match advance.step {
+            Ok(Some(found)) => {
+                let entry = found.entry;
+                StepAnswer {
+                    refusal: 0,
+                    found: 1,
+                    index: found.index,
+                    algorithm: algorithm_code(entry.algorithm()),
+                    flags: entry.flags,
+                    next_index: next.index,
+                    next_at: next.at,
+                    at: found.at,
+                    item: to_part(entry.item),
+                    fek: to_part(entry.fek),
+                }
+            }
+            Ok(None) => no_entry(0, 2, 0, next),
+            Err(refused) => no_entry(refused.refusal.number(), 0, refused.index, next),
+        }
     }
 }
 

@@ -2,17 +2,16 @@
 #![tactic(auto)]
 
 ghost use Rattle.std.specs.Prelude.{◌≡◌};
-ghost use Rattle.gkid.specs.declared.Older.TheVariants.{None, Refused};
 ghost use Rattle.face.specs.Shapes.{no_identifier};
 ghost use Rattle.face_times.specs.Times.{present_answer, start_answer, older_answer};
 
-use face::{Identifier, to_identifier};
-use gkid::{Gkid, Start};
+use face::Identifier;
+use gkid::{FileTime, Gkid};
 use refusal::Refusal;
 
 // An identifier: found is 1 where there is one.
 #[repr(C)]
-#[derive(Clone, Copy)]
+#[derive(Clone, Copy, Debug, PartialEq, Eq)]
 pub struct IdentifierAnswer {
     pub refusal: u32,
     pub found: u32,
@@ -21,7 +20,7 @@ pub struct IdentifierAnswer {
 
 // The reading at which an identifier starts.
 #[repr(C)]
-#[derive(Clone, Copy)]
+#[derive(Clone, Copy, Debug, PartialEq, Eq)]
 pub struct StartAnswer {
     pub refusal: u32,
     pub reserved: u32,
@@ -29,45 +28,48 @@ pub struct StartAnswer {
 }
 
 // A reading always has its identifier; an identifier's next older one is shown the same way.
-pub fn present_answer(present: Gkid) -> IdentifierAnswer
-    ensures { result ≡ present_answer present }
-{
-    IdentifierAnswer {
-        refusal: 0,
-        found: 1,
-        at: to_identifier(present),
+impl From<Gkid> for IdentifierAnswer {
+    ghost from_gives = { λ present answer. answer ≡ present_answer present };
+
+    fn from(present: Gkid) -> IdentifierAnswer {
+        IdentifierAnswer {
+            refusal: 0,
+            found: 1,
+            at: present.into(),
+        }
     }
 }
 
-pub fn start_answer(start: Start) -> StartAnswer
-    ensures { result ≡ start_answer start }
-{
-    match start {
-        Ok(time) => StartAnswer {
-            refusal: 0,
-            reserved: 0,
-            time: time.0,
-        },
-        Err(refusal) => StartAnswer {
-            refusal: refusal.number(),
-            reserved: 0,
-            time: 0,
-        },
+impl From<Result<FileTime, Refusal>> for StartAnswer {
+    ghost from_gives = { λ start answer. answer ≡ start_answer start };
+
+    fn from(start: Result<FileTime, Refusal>) -> StartAnswer {
+        match start {
+            Ok(time) => StartAnswer {
+                refusal: 0,
+                reserved: 0,
+                time: time.0,
+            },
+            Err(refusal) => StartAnswer {
+                refusal: refusal.number(),
+                reserved: 0,
+                time: 0,
+            },
+        }
     }
 }
 
 // (L0, 0, 0) has none, which is no refusal.
-pub fn none_older() -> IdentifierAnswer
-    ensures { result ≡ older_answer None }
-{
-    nothing(0)
-}
+impl From<Result<Option<Gkid>, Refusal>> for IdentifierAnswer {
+    ghost from_gives = { λ older answer. answer ≡ older_answer older };
 
-// Refused: the number, and zeros.
-pub fn older_refused(refusal: Refusal) -> IdentifierAnswer
-    ensures { result ≡ older_answer (Refused refusal) }
-{
-    nothing(refusal.number())
+    fn from(older: Result<Option<Gkid>, Refusal>) -> IdentifierAnswer {
+        match older {
+            Ok(Some(at)) => at.into(),
+            Ok(None) => nothing(0),
+            Err(refusal) => nothing(refusal.number()),
+        }
+    }
 }
 
 // No identifier.

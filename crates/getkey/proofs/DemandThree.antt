@@ -29,7 +29,7 @@ use Rattle.getkey.specs.Deciding.{rights_too_low, granted_at, form_for, without_
 use Rattle.getkey.specs.Waiting.{height, NoLower, Asking, Accepted, NoWorse, reached_by, ReachesUpTo, by_descriptor, by_verdict, LosesNothing}
 use Rattle.request.proofs.Requests.{asked_of, Asks, latest, named, asks}
 use Rattle.getkey.proofs.Decisions.{passed_decided, accepted_decided}
-use Rattle.getkey.proofs.Granted.{Group, granted_group, granted_later}
+use Rattle.getkey.proofs.Granting.{Group, granted_group, granted_later}
 
 -- the same row or none: the same answer but for identifier and form
 with_row_lem : (f : Result (Option ℕ) Refusal) (root : Option RootId) (asked : Option Gkid) (at at' : Gkid) (form form' : Form) → later at at' ≡ false → Accepted (with_row f root asked at form)

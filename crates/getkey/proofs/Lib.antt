@@ -1,6 +1,6 @@
 pub mod Decisions
 pub mod RootRow
-pub mod Granted
+pub mod Granting
 pub mod DemandThree
 pub mod Described
 pub mod TCases

@@ -26,14 +26,14 @@ use Rattle.reach.specs.Reached.{of_group, l1_reaches, l2_reaches, reaches}
 use Rattle.lemmas.specs.Counting.{bit, count, every}
 use Rattle.reach.specs.Bits.{bit_at, row_where, table}
 use Rattle.reach.specs.Maps.{row_of, map_of, empty_map, total_of}
-use Rattle.reach.specs.Reaches.{keys_reach, refused_reach, form_reach, reach_total}
+use Rattle.reach.specs.Reaches.{keys_reach, form_reach, reach_rows, reach_total}
 use Rattle.getkey.specs.declared.Rights.{Rights}
 use Rattle.getkey.specs.declared.Rights.TheVariants.{Public, Seed}
 use Rattle.request.specs.declared.Request.{Request}
 use Rattle.request.specs.Indices.{below, outside, out_of_range, unset, mixed, later_then_z, later_than_now, names, index_checks, natural, named_of}
 use Rattle.request.specs.Narrowed.{narrowed_of}
 use Rattle.roottable.specs.Rows.{table_wrong, row_at, suitable, rank}
-use Rattle.roottable.specs.Selection.{or_else, first_where, first_highest, chosen_row}
+use Rattle.roottable.specs.Selection.{first_where, first_highest, chosen_row}
 use Rattle.getkey.specs.Deciding.{rights_too_low, checks, granted_at, form_for, wanted_of, without_row, with_row, granting, decision, decision_by_verdict, answer_number, answer_at, answer_form, answer_creates}
 use Rattle.getkey.specs.Waiting.{height, NoWorse}
 use Rattle.getkey.proofs.DemandThree.{waiting_loses_nothing}
@@ -102,7 +102,7 @@ answered_by by = map (λ c. reply (λ q. by Seed q clock rows) c.0) cases
 
 -- Each is answered as the table says.
 pub t_cases : (answered_by (decision least) ≡ map (λ c. c.1) cases) × (answered_by (decision_by_verdict true) ≡ map (λ c. c.1) cases)
-unfolding clock id rows least asking reply shown_of cases answered_by start_of start_number start_shown number_of first_of le_of le_bytes be_of be_bytes part_of le_at be_at index_above_31 gkid_at root_at root_bytes same_root keys_allowed l1_key_allowed l2_key_allowed keys_of seed_form of_group l1_reaches l2_reaches reaches bit_at bit row_where count table row_of map_of empty_map total_of seed_checks key_checks keys_reach refused_reach form_reach reach_total below outside out_of_range unset mixed later_then_z later_than_now names natural named_of index_checks narrowed_of table_wrong row_at suitable rank every or_else first_where first_highest chosen_row rights_too_low checks granted_at form_for wanted_of without_row with_row granting unless_refused is_sound finding_number finding_of head_sound descriptor.names decision decision_by_verdict answer_number answer_at answer_form
+unfolding clock id rows least asking reply shown_of cases answered_by start_of start_number start_shown number_of first_of le_of le_bytes be_of be_bytes part_of le_at be_at index_above_31 gkid_at root_at root_bytes same_root keys_allowed l1_key_allowed l2_key_allowed keys_of seed_form of_group l1_reaches l2_reaches reaches bit_at bit row_where count table row_of map_of empty_map total_of seed_checks key_checks keys_reach form_reach reach_rows reach_total below outside out_of_range unset mixed later_then_z later_than_now names natural named_of index_checks narrowed_of table_wrong row_at suitable rank every first_where first_highest chosen_row rights_too_low checks granted_at form_for wanted_of without_row with_row granting unless_refused is_sound finding_number finding_of head_sound descriptor.names decision decision_by_verdict answer_number answer_at answer_form
 t_cases = (refl, refl)
 
 -- An accepted answer of each kind of request: root given or not, and all -1 or named, which takes seed rights; and CREATE. So nothing that
@@ -115,7 +115,7 @@ pub record Kind : Type 0 where
 
 unfoldable pub given : Option RootId → Bool
 given None = false
-given (Some id) = true
+given (Some _) = true
 
 unfoldable pub kind_of : Rights → Request → List ℕ → Kind
 kind_of rights q t =
@@ -140,7 +140,7 @@ kinds =
     ∷ []
 
 pub each_kind_accepted : map (λ k. kind_of k.0.0 k.0.1.0 k.0.1.1) kinds ≡ map (λ k. k.1) kinds
-unfolding clock id rows least asking latest kinds kind_of given number_of first_of le_of le_bytes be_of be_bytes part_of le_at be_at gkid_at root_at root_bytes same_root below outside out_of_range unset mixed later_then_z later_than_now names natural named_of index_checks narrowed_of table_wrong row_at suitable rank every or_else first_where first_highest chosen_row rights_too_low checks granted_at wanted_of without_row with_row granting unless_refused is_sound finding_number finding_of head_sound descriptor.names decision decision_by_verdict answer_number answer_creates
+unfolding clock id rows least asking latest kinds kind_of given number_of first_of le_of le_bytes be_of be_bytes part_of le_at be_at gkid_at root_at root_bytes same_root below outside out_of_range unset mixed later_then_z later_than_now names natural named_of index_checks narrowed_of table_wrong row_at suitable rank every first_where first_highest chosen_row rights_too_low checks granted_at wanted_of without_row with_row granting unless_refused is_sound finding_number finding_of head_sound descriptor.names decision decision_by_verdict answer_number answer_creates
 each_kind_accepted = refl
 
 number_first : List Kind → ℕ

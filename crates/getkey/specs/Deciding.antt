@@ -1,5 +1,6 @@
 -- Document 01, "The GetKey decision", by the verdict on a security descriptor, and by the descriptor's bytes (document 02, No. 5).
 use Rattle.std.specs.Prelude.{ℕ, ◌<◌, ◌^◌, Bool, true, false, cond, not, List, [], ◌∷◌, ltb, length, Result, Ok, Err, Option, Some, None}
+use Rattle.std.specs.Option.{is_none, unwrap_or}
 use Rattle.rootid.specs.declared.RootId.{RootId}
 use Rattle.refusal.specs.declared.Refusal.{Refusal}
 use Rattle.refusal.specs.declared.Refusal.TheVariants.{VerdictNo, IndexOutOfRange, MixedIndices, LaterThanNow, RightsTooLow, TableLength, NoRootKey}
@@ -14,6 +15,7 @@ use Rattle.descriptor.specs.Checking.{is_sound}
 use Rattle.keys.specs.declared.Form.{Form}
 use Rattle.keys.specs.declared.Form.TheVariants as form
 use Rattle.keys.specs.Forms.{seed_form}
+use Rattle.getkey.specs.declared.Granted.{Granted}
 use Rattle.getkey.specs.declared.Rights.{Rights}
 use Rattle.getkey.specs.declared.Rights.TheVariants as rights
 use Rattle.request.specs.declared.Request.{Request}
@@ -60,29 +62,29 @@ wanted_of None None = wanted.Newest
 wanted_of None (Some i) = wanted.InUse (record { 0 = start_time i })
 
 -- no such row: CREATE if none is given and all are -1, which suits every row, so that the table is empty; else 19
-unfoldable pub without_row : Option RootId → Option Gkid → Gkid → Form → Result OkRow Refusal
-without_row None None at form = OkCreate at form
+unfoldable pub without_row : Option RootId → Option Gkid → Gkid → Form → Result Granted Refusal
+without_row None None at form = Ok (record { at = at; form = form; row = None })
 without_row None (Some i) at form = Err NoRootKey
 without_row (Some id) asked at form = Err NoRootKey
 
 -- what comes of the search for a row; 20 as it stands
-unfoldable pub with_row : Result (Option ℕ) Refusal → Option RootId → Option Gkid → Gkid → Form → Result OkRow Refusal
-with_row (Ok (Some k)) root asked at form = OkRow at form k
+unfoldable pub with_row : Result (Option ℕ) Refusal → Option RootId → Option Gkid → Gkid → Form → Result Granted Refusal
+with_row (Ok (Some k)) root asked at form = Ok (record { at = at; form = form; row = Some k })
 with_row (Ok None) root asked at form = without_row root asked at form
 with_row (Err r) root asked at form = Err r
 
 -- what the indices ask for, if a row is found; 14 and 15 as they stand
-unfoldable pub granting : Rights → Option RootId → Result (Option Gkid) Refusal → Gkid → List ℕ → Result OkRow Refusal
+unfoldable pub granting : Rights → Option RootId → Result (Option Gkid) Refusal → Gkid → List ℕ → Result Granted Refusal
 granting rights root (Err r) present table = Err r
 granting rights root (Ok asked) present table =
     with_row (chosen_row (wanted_of root asked) table) root asked (granted_at asked root present) (form_for rights (granted_at asked root present))
 
-unfoldable pub decision_by_verdict : Bool → Rights → Request → FileTime → List ℕ → Result OkRow Refusal
+unfoldable pub decision_by_verdict : Bool → Rights → Request → FileTime → List ℕ → Result Granted Refusal
 decision_by_verdict verdict rights q clock table =
     unless_refused Err (first_of (checks verdict rights q (gkid_at clock) (length table))) (granting rights q.root (narrowed_of q) (gkid_at clock) table)
 
 -- the descriptor's bytes in place of the verdict: it is yes where they are sound
-unfoldable pub decision : List ℕ → Rights → Request → FileTime → List ℕ → Result OkRow Refusal
+unfoldable pub decision : List ℕ → Rights → Request → FileTime → List ℕ → Result Granted Refusal
 decision descriptor rights q clock table = decision_by_verdict (is_sound descriptor) rights q clock table
 
 -- the start of what is named, as 64 bits hold it
@@ -92,27 +94,22 @@ Starts (Some i) = InGroup i × (start_time i < 2 ^ 64)
 
 -- document 01's number and values: 0 and the identifier, the form, the row, and whether a root key is created; or the refusal's
 -- number and zeros
-unfoldable pub answer_number : Result OkRow Refusal → ℕ
-answer_number (OkRow at form row) = 0
-answer_number (OkCreate at form) = 0
+unfoldable pub answer_number : Result Granted Refusal → ℕ
+answer_number (Ok granted) = 0
 answer_number (Err r) = number_of r
 
-unfoldable pub answer_at : Result OkRow Refusal → Gkid
-answer_at (OkRow at form row) = at
-answer_at (OkCreate at form) = at
+unfoldable pub answer_at : Result Granted Refusal → Gkid
+answer_at (Ok granted) = granted.at
 answer_at (Err r) = gkid 0 0 0
 
-unfoldable pub answer_form : Result OkRow Refusal → Form
-answer_form (OkRow at form row) = form
-answer_form (OkCreate at form) = form
+unfoldable pub answer_form : Result Granted Refusal → Form
+answer_form (Ok granted) = granted.form
 answer_form (Err r) = form.Keyless
 
-unfoldable pub answer_row : Result OkRow Refusal → ℕ
-answer_row (OkRow at form row) = row
-answer_row (OkCreate at form) = 0
+unfoldable pub answer_row : Result Granted Refusal → ℕ
+answer_row (Ok granted) = unwrap_or granted.row 0
 answer_row (Err r) = 0
 
-unfoldable pub answer_creates : Result OkRow Refusal → Bool
-answer_creates (OkRow at form row) = false
-answer_creates (OkCreate at form) = true
+unfoldable pub answer_creates : Result Granted Refusal → Bool
+answer_creates (Ok granted) = is_none granted.row
 answer_creates (Err r) = false

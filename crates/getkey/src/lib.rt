@@ -2,44 +2,42 @@
 // and the root table to the identifier granted, the form and the root row, or the refusal.
 #![tactic(auto)]
 
-ghost use Rattle.std.specs.Prelude.{◌≡◌, ℕ, ◌<◌, ◌^◌, take};
+ghost use Rattle.std.specs.Prelude.{◌≡◌, ℕ, Ok, take};
 ghost use Rattle.refusal.specs.Chain.{first_of};
-ghost use Rattle.gkid.specs.Identifier.{InGroup};
-ghost use Rattle.gkid.specs.Start.{start_time};
-ghost use Rattle.request.specs.declared.Narrowing.TheVariants.{Asks};
-ghost use Rattle.getkey.specs.Deciding.{rights_too_low, checks, granted_at, form_for, wanted_of, without_row, granting, decision_by_verdict, decision, Starts};
+ghost use Rattle.getkey.specs.Deciding.{rights_too_low, checks, granted_at, form_for, wanted_of, granting, decision_by_verdict, decision, Starts};
 
 use descriptor::is_sound;
-use gkid::{FileTime, Gkid, L1, L2, Start};
+use gkid::{FileTime, Gkid, L1, L2};
 use keys::{Form, seed_form};
-use refusal::{Outcome, Refusal};
-use request::{Asked, Narrowing, Request, Root};
-use roottable::{Found, Wanted, choose};
+use refusal::Refusal;
+use request::Request;
+use rootid::RootId;
+use roottable::{Wanted, choose};
 
 // What the caller may be given: nothing, public keys, or seed keys.
-#[derive(Clone, Copy)]
+#[derive(Clone, Copy, Debug, PartialEq, Eq)]
 pub enum Rights {
     None,
     Public,
     Seed,
 }
 
-// The answer: the identifier granted and the form, with a root row or a root key to create; or the refusal.
-#[derive(Clone, Copy)]
-pub enum Answer {
-    Granted { at: Gkid, form: Form, row: usize },
-    Create { at: Gkid, form: Form },
-    Refused(Refusal),
+// What is granted: the identifier, the form, and the root row, or none where a root key is to be created.
+#[derive(Clone, Copy, Debug, PartialEq, Eq)]
+pub struct Granted {
+    pub at: Gkid,
+    pub form: Form,
+    pub row: Option<usize>,
 }
 
-// The decision. 16 where the descriptor is not sound.
+// The decision. 16 where the descriptor is not sound. Its parameters and those of `decide_by_verdict` stay apart, as callers pass them.
 pub fn decide(
     descriptor: &[u8],
     rights: Rights,
     request: Request,
     clock: FileTime,
     table: &[u8],
-) -> Answer
+) -> Result<Granted, Refusal>
     ensures { result ≡ decision descriptor.now rights request clock table.now }
 {
     decide_by_verdict(is_sound(descriptor), rights, request, clock, table)
@@ -52,24 +50,17 @@ pub fn decide_by_verdict(
     request: Request,
     clock: FileTime,
     table: &[u8],
-) -> Answer
+) -> Result<Granted, Refusal>
     ensures { result ≡ decision_by_verdict verdict rights request clock table.now }
 {
     let present = Gkid::at(clock);
-    match judge(verdict, rights, request, present) {
-        Err(refusal) => Err(refusal),
-        Ok(()) => match request.narrowed() {
-            Err(refusal) => Err(refusal),
-            Ok(asked) => {
-                let root = request.root;
-                grant(rights, root, asked, present, table)
-            }
-        },
-    }
+    judge(verdict, rights, request, present)?;
+    let asked = request.narrowed()?;
+    grant(rights, request.root, asked, present, table)
 }
 
 // 16, 14, 15, 17, 18: the checks but for the last, 20, which `choose` answers.
-fn judge(verdict: bool, rights: Rights, request: Request, present: Gkid) -> Outcome
+fn judge(verdict: bool, rights: Rights, request: Request, present: Gkid) -> Result<(), Refusal>
     ensures { (len : ℕ) → result ≡ first_of (take 5 (checks verdict rights request present len)) }
 {
     if !verdict {
@@ -90,79 +81,56 @@ fn judge(verdict: bool, rights: Rights, request: Request, present: Gkid) -> Outc
     Ok(())
 }
 
-// What is asked for, if a row is found: 20, 19.
-fn grant(rights: Rights, root: Root, asked: Asked, present: Gkid, table: &[u8]) -> Answer
+// What is asked for, if a row is found: 20, 19. Without one, a root key is created if none is given and the latest is asked for.
+fn grant(
+    rights: Rights,
+    root: Option<RootId>,
+    asked: Option<Gkid>,
+    present: Gkid,
+    table: &[u8],
+) -> Result<Granted, Refusal>
     requires { Starts asked }
-    ensures { result ≡ granting rights root (Asks asked) present table.now }
+    ensures { result ≡ granting rights root (Ok asked) present table.now }
 {
     let at = granted_at(asked, root, present);
     let form = rights.form(at);
-    match choose(row_wanted(root, asked), table) {
-        Ok(Some(row)) => OkRow { at, form, row },
-        Ok(None) => without_row(root, asked, at, form),
-        Err(refusal) => Err(refusal),
+    let row = choose(row_wanted(root, asked), table)?;
+    if row.is_none() && (root.is_some() || asked.is_some()) {
+        return Err(Refusal::NoRootKey);
     }
+    Ok(Granted { at, form, row })
 }
 
 // The identifier granted.
-fn granted_at(asked: Asked, root: Root, present: Gkid) -> Gkid
+fn granted_at(asked: Option<Gkid>, root: Option<RootId>, present: Gkid) -> Gkid
     ensures { result ≡ granted_at asked root present }
 {
     let Some(named) = asked else {
         return present;
     };
-    match root {
-        None => named,
-        Some(_) => {
-            if named.l0.0 < present.l0.0 {
-                let l0 = named.l0;
-                Gkid {
-                    l0,
-                    l1: L1(31),
-                    l2: L2(31),
-                }
-            } else {
-                present
-            }
-        }
+    if root.is_none() {
+        return named;
     }
+    if named.l0 < present.l0 {
+        return Gkid {
+            l0: named.l0,
+            l1: L1(31),
+            l2: L2(31),
+        };
+    }
+    present
 }
 
 // The row wanted: that of the root given, or the newest, or one in use at the start of the named identifier.
-fn row_wanted(root: Root, asked: Asked) -> Wanted
+fn row_wanted(root: Option<RootId>, asked: Option<Gkid>) -> Wanted
     requires { Starts asked }
     ensures { result ≡ wanted_of root asked }
 {
-    match root {
-        Some(id) => Wanted::Root(id),
-        None => match asked {
-            None => Wanted::Newest,
-            Some(named) => Wanted::InUse(start_of(named)),
-        },
+    match (root, asked) {
+        (Some(id), _) => Wanted::Root(id),
+        (None, None) => Wanted::Newest,
+        (None, Some(named)) => Wanted::InUse(named.start().unwrap()),
     }
-}
-
-// The start of an identifier that has one.
-fn start_of(at: Gkid) -> FileTime
-    requires { InGroup at × (start_time at < 2 ^ 64) }
-    ensures { result ≡ record { 0 = start_time at } }
-{
-    match at.start() {
-        Ok(time) => time,
-        Err(_) => FileTime(0),
-    }
-}
-
-// No such row: CREATE or 19.
-fn without_row(root: Root, asked: Asked, at: Gkid, form: Form) -> Answer
-    ensures { result ≡ without_row root asked at form }
-{
-    if let None = root {
-        if let None = asked {
-            return OkCreate { at, form };
-        }
-    }
-    Err(Refusal::NoRootKey)
 }
 
 impl Rights {

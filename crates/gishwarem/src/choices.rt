@@ -7,21 +7,21 @@ ghost use Rattle.face.specs.Codes.{form_from};
 ghost use Rattle.face.specs.Shapes.{gkid_from, root_id_from};
 ghost use Rattle.face_choices.specs.Choices.{reach_answer, choice_answer};
 
-use face::{Identifier, RootBytes, form_from, to_gkid, to_root};
-use face_choices::{ChoiceAnswer, ReachAnswer, choice_answer, reach_answer};
+use face::{Identifier, RootBytes, form_from};
+use face_choices::{ChoiceAnswer, ReachAnswer};
 
 #[unsafe(no_mangle)]
 pub extern "C" fn gw_envelope_reach(s: &[u8]) -> ReachAnswer
     ensures { result ≡ reach_answer (envelope_reach s.now) }
 {
-    reach_answer(serving::envelope_reach(s))
+    serving::envelope_reach(s).into()
 }
 
 #[unsafe(no_mangle)]
 pub extern "C" fn gw_form_reach(form: u32, at: Identifier) -> ReachAnswer
     ensures { result ≡ reach_answer (form_reach (form_from form) (gkid_from at)) }
 {
-    reach_answer(reach::form_reach(form_from(form), to_gkid(at)))
+    reach::form_reach(form_from(form), at.into()).into()
 }
 
 #[unsafe(no_mangle)]
@@ -33,5 +33,5 @@ pub extern "C" fn gw_choose(
 ) -> ChoiceAnswer
     ensures { result ≡ choice_answer (choice_of (root_id_from id) (gkid_from wanted) cached.now fetched.now) }
 {
-    choice_answer(serving::choose(to_root(id), to_gkid(wanted), cached, fetched))
+    serving::choose(id.into(), wanted.into(), cached, fetched).into()
 }

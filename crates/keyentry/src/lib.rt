@@ -1,7 +1,7 @@
 // Document 01, "Key List Entry and list": the Key List Entry (MS-EFSR 2.2.2.1.2), read and written.
 #![tactic(auto)]
 
-ghost use Rattle.std.specs.Prelude.{◌≡◌, ℕ, ◌+◌, ◌≤◌, length};
+ghost use Rattle.std.specs.Prelude.{◌≡◌, Ok, ℕ, ◌+◌, ◌≤◌, length};
 ghost use Rattle.refusal.specs.Chain.{first_of};
 ghost use Rattle.wire.specs.Parts.{onto};
 ghost use Rattle.records.specs.Writing.{output_of};
@@ -9,12 +9,12 @@ ghost use Rattle.keyentry.specs.Layout.{outside, run_checks, item_checks};
 ghost use Rattle.keyentry.specs.Reading.{entry_checks, shown, entry_of, algorithm_of, span_of, entry_span, entry_part};
 ghost use Rattle.keyentry.specs.Writing.{entry_length, entry_bytes, write_checks, entry_written};
 
-use records::{LIMIT, Written, grown};
-use refusal::{Outcome, Refusal};
+use records::{LIMIT, grown};
+use refusal::Refusal;
 use wire::{Span, copy_into, le32_at, put_le32s};
 
 // An accepted entry: the Flags, and where the public key item and the FEK stand, counted from the entry's first byte.
-#[derive(Clone, Copy)]
+#[derive(Clone, Copy, Debug, PartialEq, Eq)]
 pub struct Entry {
     pub flags: u32,
     pub item: Span,
@@ -22,72 +22,90 @@ pub struct Entry {
 }
 
 // What Flags say of the FEK's encryption.
-#[derive(Clone, Copy)]
+#[derive(Clone, Copy, Debug, PartialEq, Eq)]
 pub enum Algorithm {
     Rsa,
     Aes256,
     Unsupported,
 }
 
-// What reading an entry answers.
-#[derive(Clone, Copy)]
-pub enum EntryRead {
-    Accepted(Entry),
-    Refused(Refusal),
+// An item as an entry's numbers place it: `len` bytes from `at` on, whether or not they lie in the entry.
+#[derive(Clone, Copy, Debug, PartialEq, Eq)]
+struct Item {
+    at: u32,
+    len: u32,
 }
 
 // The parts of an entry.
-#[derive(Clone, Copy)]
+#[derive(Clone, Copy, Debug, PartialEq, Eq)]
 pub enum EntryPart {
     Item,
     Fek,
 }
 
 impl Entry {
+    #[tactic(auto, unfolding(crate::specs::Reading::algorithm_of))]
     pub fn algorithm(self) -> Algorithm
         ensures { result ≡ algorithm_of self.flags }
     {
-        if self.flags == 0 {
-            return Algorithm::Rsa;
+        match self.flags {
+            0 => Algorithm::Rsa,
+            1 => Algorithm::Aes256,
+            _ => Algorithm::Unsupported,
         }
-        if self.flags == 1 {
-            return Algorithm::Aes256;
+    }
+
+    // Where a part stands.
+    #[tactic(auto, unfolding(crate::specs::Reading::span_of))]
+    pub fn span(self, which: EntryPart) -> Span
+        ensures { result ≡ span_of (Ok self) which }
+    {
+        match which {
+            EntryPart::Item => self.item,
+            EntryPart::Fek => self.fek,
         }
-        Algorithm::Unsupported
     }
 }
 
-impl EntryRead {
-    // Where a part stands: each part of a refused entry is empty at 0.
-    pub fn span(self, which: EntryPart) -> Span
-        ensures { result ≡ span_of self which }
+impl Item {
+    // Where it ends.
+    fn end(self) -> usize
+        ensures { result ≡ self.at + self.len }
     {
-        match self {
-            Ok(entry) => match which {
-                EntryPart::Item => entry.item,
-                EntryPart::Fek => entry.fek,
-            },
-            Err(_) => Span { at: 0, len: 0 },
-        }
+        self.at as usize + self.len as usize
+    }
+
+    // It does not lie in the Data Fields of an entry of len bytes.
+    #[tactic(auto, unfolding(crate::specs::Layout::outside))]
+    fn is_outside(self, len: usize) -> bool
+        ensures { result ≡ outside self.at self.len len }
+    {
+        (self.at < 20) | (len < self.end())
+    }
+}
+
+// Where a part of what was read stands: each part of a refused entry is empty at 0.
+#[tactic(auto, unfolding(crate::specs::Reading::span_of))]
+pub fn span_of(read: Result<Entry, Refusal>, which: EntryPart) -> Span
+    ensures { result ≡ span_of read which }
+{
+    match read {
+        Ok(entry) => entry.span(which),
+        Err(_) => Span { at: 0, len: 0 },
     }
 }
 
 // What an entry shows, or its refusal.
-pub fn read(s: &[u8]) -> EntryRead
+#[tactic(auto, unfolding(crate::specs::Reading::entry_of, refusal::specs::Chain::unless_refused))]
+pub fn read(s: &[u8]) -> Result<Entry, Refusal>
     ensures { result ≡ entry_of s.now }
 {
-    match judge(s) {
-        Ok(()) => {
-            return Ok(shown(s));
-        }
-        Err(refusal) => {
-            return Err(refusal);
-        }
-    }
+    judge(s)?;
+    Ok(shown(s))
 }
 
 // The checks, in document 01's order; a number is read just before its check.
-fn judge(s: &[u8]) -> Outcome
+fn judge(s: &[u8]) -> Result<(), Refusal>
     ensures { result ≡ first_of (entry_checks s.now) }
 {
     let len = s.len();
@@ -100,70 +118,65 @@ fn judge(s: &[u8]) -> Outcome
     if le32_at(s, 0) as usize != len {
         return Err(Refusal::LengthsDisagree);
     }
-    let p = le32_at(s, 4);
-    if is_outside(p, 4, len) {
+    let at = le32_at(s, 4);
+    if (Item { at, len: 4 }).is_outside(len) {
         return Err(Refusal::Misplaced);
     }
-    judge_items(
-        p,
-        le32_at(s, p as usize),
-        le32_at(s, 12),
-        le32_at(s, 8),
-        len,
-    )
+    let item = Item {
+        at,
+        len: le32_at(s, at as usize),
+    };
+    let fek = Item {
+        at: le32_at(s, 12),
+        len: le32_at(s, 8),
+    };
+    judge_items(item, fek, len)
 }
 
-// The checks behind the item's own length, n, which is read only where it lies inside: item (p, n), FEK (f, e).
-fn judge_items(p: u32, n: u32, f: u32, e: u32, len: usize) -> Outcome
-    ensures { result ≡ first_of (item_checks p n f e len) }
+// The checks behind the item's own length, which is read only where it lies inside.
+fn judge_items(item: Item, fek: Item, len: usize) -> Result<(), Refusal>
+    ensures { result ≡ first_of (item_checks item.at item.len fek.at fek.len len) }
 {
-    if n < 4 {
+    if item.len < 4 {
         return Err(Refusal::EmptyItem);
     }
-    if len < p as usize + n as usize {
+    if len < item.end() {
         return Err(Refusal::Misplaced);
     }
-    if e == 0 {
+    if fek.len == 0 {
         return Err(Refusal::EmptyItem);
     }
-    if is_outside(f, e, len) {
+    if fek.is_outside(len) {
         return Err(Refusal::Misplaced);
     }
-    judge_runs(p, n, f, e, len)
-}
-
-// An item of n bytes at p does not lie in the Data Fields of an entry of len bytes.
-fn is_outside(p: u32, n: u32, len: usize) -> bool
-    ensures { result ≡ outside p n len }
-{
-    (p < 20) | (len < p as usize + n as usize)
+    judge_runs(item, fek, len)
 }
 
 // 8 and 9: one item ends before the other begins, and the runs around them are short.
-fn judge_runs(p: u32, n: u32, f: u32, e: u32, len: usize) -> Outcome
-    ensures { result ≡ first_of (run_checks p n f e len) }
+fn judge_runs(item: Item, fek: Item, len: usize) -> Result<(), Refusal>
+    ensures { result ≡ first_of (run_checks item.at item.len fek.at fek.len len) }
 {
-    if p as usize + n as usize <= f as usize {
-        return judge_ordered(p, n, f, e, len);
+    if item.end() <= fek.at as usize {
+        return judge_ordered(item, fek, len);
     }
-    if f as usize + e as usize <= p as usize {
-        return judge_ordered(f, e, p, n, len);
+    if fek.end() <= item.at as usize {
+        return judge_ordered(fek, item, len);
     }
     Err(Refusal::Overlap)
 }
 
-// 9, where the item of n bytes at p ends before the one of e bytes at f begins.
-fn judge_ordered(p: u32, n: u32, f: u32, e: u32, len: usize) -> Outcome
-    requires { p + n ≤ f }
-    ensures { result ≡ first_of (run_checks p n f e len) }
+// 9, where the first item ends before the second begins.
+fn judge_ordered(first: Item, second: Item, len: usize) -> Result<(), Refusal>
+    requires { first.at + first.len ≤ second.at }
+    ensures { result ≡ first_of (run_checks first.at first.len second.at second.len len) }
 {
-    if 28 < p {
+    if 28 < first.at {
         return Err(Refusal::UnusedRun);
     }
-    if p as usize + n as usize + 8 < f as usize {
+    if first.end() + 8 < second.at as usize {
         return Err(Refusal::UnusedRun);
     }
-    if f as usize + e as usize + 8 < len {
+    if second.end() + 8 < len {
         return Err(Refusal::UnusedRun);
     }
     Ok(())
@@ -192,17 +205,15 @@ pub fn part(s: &[u8], which: EntryPart) -> &[u8]
     ensures bytes { result.now ≡ entry_part s.now which }
     ensures place { (result.ref_ptr.0 ≡ s.entry.ref_ptr.0) × (result.ref_ptr.1 ≡ s.entry.ref_ptr.1 + (entry_span s.now which).at) }
 {
-    wire::part(s, read(s).span(which))
+    wire::part(s, span_of(read(s), which))
 }
 
 // Writes an entry: what is given is judged, then 13. A refusal keeps the output's bytes; success keeps those behind the record.
-pub fn write(out: &mut [u8], flags: u32, item: &[u8], fek: &[u8]) -> Written
+pub fn write(out: &mut [u8], flags: u32, item: &[u8], fek: &[u8]) -> Result<usize, Refusal>
     ensures answer { result ≡ entry_written flags item.now fek.now (length out.old) }
     ensures output { out.new ≡ output_of result (entry_bytes flags item.now fek.now) out.old }
 {
-    if let Err(refusal) = judge_given(item, fek) {
-        return Err(refusal);
-    }
+    judge_given(item, fek)?;
     let len = 20 + item.len() + fek.len();
     if out.len() < len {
         return Err(Refusal::NoRoom);
@@ -212,7 +223,7 @@ pub fn write(out: &mut [u8], flags: u32, item: &[u8], fek: &[u8]) -> Written
 }
 
 // 1, 7, 3, then as the reader would say of the bytes, which is 7 for an empty FEK. Flags never refuse.
-fn judge_given(item: &[u8], fek: &[u8]) -> Outcome
+fn judge_given(item: &[u8], fek: &[u8]) -> Result<(), Refusal>
     ensures { (flags : ℕ) → result ≡ first_of (write_checks flags item.now fek.now) }
 {
     if LIMIT < grown(grown(20, item.len()), fek.len()) {

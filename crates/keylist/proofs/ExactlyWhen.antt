@@ -15,14 +15,14 @@ use Rattle.keyentry.specs.Reading.{entry_checks, entry_of, entry_number}
 use Rattle.keyentry.specs.WellFormed.{WellFormed}
 use Rattle.keyentry.proofs.ExactlyWhen.{accepted_well_formed, well_formed_accepted}
 use Rattle.keyentry.proofs.Reading.{accepted-checks, pass_shown}
-use Rattle.keylist.specs.Reading.{count_of, list_checks, length_at, record_at, extent_checks, place_checks, entries_from, list_of, list_number}
+use Rattle.keylist.specs.Reading.{count_of, list_checks, length_at, record_at, extent_checks, place_checks, refused_at, entries_from, list_of, list_number}
 use Rattle.keylist.specs.WellFormed.{Entries, none, more, WellFormedList}
 use Rattle.keylist.proofs.Stepping.{lying}
 
 -- an answer that is 0: the checks that come first are passed, and what stands behind them is 0
-passed_on : (o : Outcome) (index : ℕ) (rest : Result ℕ ListRefusal) → list_number (unless_refused (λ r. ErrAt r index) o rest) ≡ 0 → (o ≡ Ok tt) × (list_number rest ≡ 0)
+passed_on : (o : Outcome) (index : ℕ) (rest : Result ℕ ListRefusal) → list_number (unless_refused (refused_at index) o rest) ≡ 0 → (o ≡ Ok tt) × (list_number rest ≡ 0)
 unfolding list_number
-passed_on o index rest = unless_zero list_number (λ r. ErrAt r index) (λ r. refl) o rest
+passed_on o index rest = unless_zero list_number (refused_at index) (λ r. refl) o rest
 
 -- the entry's record, then what follows it
 split : (s : List ℕ) (at : ℕ) → length_at s at ≤ length s - at → 20 ≤ length_at s at → record_at s at ++ drop (at + length_at s at) s ≡ drop at s
@@ -33,7 +33,7 @@ split s at h some =
 accepted-entries : (n : ℕ) (s : List ℕ) (at index : ℕ) → list_number (entries_from n s at index) ≡ 0 → Entries n (drop at s)
 unfolding entries_from place_checks extent_checks list_number entry_number
 accepted-entries zero s at index z =
-    by_cases (λ t. list_number (cond t (Ok index) (ErrAt BytesLeft 0)) ≡ 0 → Entries zero (drop at s)) (eqb at (length s))
+    by_cases (λ t. list_number (cond t (Ok index) (refused_at 0 BytesLeft)) ≡ 0 → Entries zero (drop at s)) (eqb at (length s))
     (λ q _. subst (Entries zero) (sym (drop_of_length-le s {i = at} (omega (arith, eqb-true at (length s) q)))) none)
     (λ q w. absurd (number_not-zero BytesLeft w))
     z
@@ -104,7 +104,7 @@ well_formed_list_accepted s w =
 entries_counted : (n : ℕ) (s : List ℕ) (at index : ℕ) → list_number (entries_from n s at index) ≡ 0 → entries_from n s at index ≡ Ok (index + n)
 unfolding entries_from unless_refused list_number
 entries_counted zero s at index z =
-    by_cases (λ t. list_number (cond t (Ok index) (ErrAt BytesLeft 0)) ≡ 0 → cond t (Ok index) (ErrAt BytesLeft 0) ≡ Ok (index + 0)) (eqb at (length s))
+    by_cases (λ t. list_number (cond t (Ok index) (refused_at 0 BytesLeft)) ≡ 0 → cond t (Ok index) (refused_at 0 BytesLeft) ≡ Ok (index + 0)) (eqb at (length s))
     (λ q _. ap Ok (sym (add-zero index)))
     (λ q w. absurd (number_not-zero BytesLeft w))
     z

@@ -19,24 +19,24 @@ use Rattle.keyentry.proofs.Reading.{accepted-shown, refused_checks, pass_shown, 
 use Rattle.keylist.specs.declared.Place.{Place}
 use Rattle.keylist.specs.declared.Found.{Found}
 use Rattle.keylist.specs.declared.Advance.{Advance}
-use Rattle.keylist.specs.Reading.{count_of, list_checks, length_at, record_at, extent_checks, extent_of, bounds_number, bounds_span, place_checks, entries_from}
-use Rattle.keylist.specs.Passing.{judged_at}
+use Rattle.keylist.specs.Reading.{count_of, list_checks, length_at, record_at, extent_checks, extent_of, bounds_number, bounds_span, place_checks, refused_at, entries_from}
+use Rattle.keylist.specs.Passing.{judged_at, entered}
 use Rattle.keylist.specs.Stepping.{found_at, end_at, entry_step, step_of, place_after, arrived, advance_of, step_span, list_span, list_part}
 
 -- the step of an outcome
 abbrev step_unless : Outcome → ℕ → Result (Option Found) ListRefusal → Result (Option Found) ListRefusal
-step_unless o index found = unless_refused (λ r. ErrAt r index) o found
+step_unless o index found = unless_refused (refused_at index) o found
 
-refused_step : {o : Outcome} {r : Refusal} (index : ℕ) (found : Result (Option Found) ListRefusal) → o ≡ Err r → step_unless o index found ≡ ErrAt r index
+refused_step : {o : Outcome} {r : Refusal} (index : ℕ) (found : Result (Option Found) ListRefusal) → o ≡ Err r → step_unless o index found ≡ refused_at index r
 unfolding unless_refused
 refused_step index found e = rw e
 
 -- 1 and 2 of the whole list, and neither.
-pub step_long : (s : List ℕ) (p : Place) → 65535 < length s → step_of s p ≡ ErrAt TooLong 0
+pub step_long : (s : List ℕ) (p : Place) → 65535 < length s → step_of s p ≡ refused_at 0 TooLong
 unfolding step_of list_checks
 step_long s p h = refused_step 0 _ (first_here _ _ _ (lt-ltb 65535 (length s) h))
 
-pub step_short : (s : List ℕ) (p : Place) → length s ≤ 65535 → length s < 4 → step_of s p ≡ ErrAt Short 0
+pub step_short : (s : List ℕ) (p : Place) → length s ≤ 65535 → length s < 4 → step_of s p ≡ refused_at 0 Short
 unfolding step_of list_checks
 step_short s p l h = refused_step 0 _ (first_next _ _ _ (le-ltb 65535 (length s) l) ∙ first_here _ _ _ (lt-ltb (length s) 4 h))
 
@@ -112,19 +112,33 @@ module _ (s : List ℕ) (at : ℕ) (span : Span) (l : Lies s at span) where
   pub place_refused : (r : Refusal) → entry_of (part_of s span.at span.len) ≡ Err r → first_of (place_checks s at) ≡ Err r
   place_refused r h = place_read ∙ refused_checks (record_at s at) r (record_is ∙ h)
 
--- A step into an entry by that outcome.
+-- The entry at a place and the place behind it, by that outcome.
 pub entered_accepted : (s : List ℕ) (p : Place) (span : Span) → Lies s p.at span → (e : Entry) → entry_of (part_of s span.at span.len) ≡ Ok e
-    → arrived s p (entry_step s p) ≡ record { step = Ok (Some (record { index = p.index; at = p.at; entry = e })); place = record { at = p.at + span.len; index = p.index + 1 } }
-unfolding arrived entry_step unless_refused place_after found_at
+    → entered s p ≡ Ok (record { step = Ok (Some (record { index = p.index; at = p.at; entry = e })); place = record { at = p.at + span.len; index = p.index + 1 } })
+unfolding entered unless_refused found_at
 entered_accepted s p span l e h = let told = place_accepted s p.at span l e h in rw (told.0, told.1, l.is)
 
-pub entered_refused : (s : List ℕ) (p : Place) (r : Refusal) → first_of (place_checks s p.at) ≡ Err r → arrived s p (entry_step s p) ≡ record { step = ErrAt r p.index; place = p }
-unfolding arrived entry_step unless_refused place_after
+pub entered_refused : (s : List ℕ) (p : Place) (r : Refusal) → first_of (place_checks s p.at) ≡ Err r → entered s p ≡ Err r
+unfolding entered unless_refused
 entered_refused s p r e = rw e
+
+-- the step that this is: the entry, or the refusal given for it
+abbrev pub stepped_in : Place → Result Advance Refusal → Advance
+stepped_in p (Ok advance) = advance
+stepped_in p (Err r) = record { step = refused_at p.index r; place = p }
+
+pub step_entered : (s : List ℕ) (p : Place) → length s ≤ 65535 → 4 ≤ length s → p.index < count_of s → {e : Result Advance Refusal} → e ≡ entered s p → stepped_in p e ≡ advance_of s p
+unfolding arrived entry_step entered unless_refused place_after
+step_entered s p l h i e = ap (stepped_in p) e ∙ told (first_of (place_checks s p.at)) ∙ sym (ap (arrived s p) (step_entry s p l h i))
+  where
+    told : (o : Outcome) → stepped_in p (unless_refused Err o (Ok (record { step = Ok (Some (found_at s p)); place = record { at = p.at + length_at s p.at; index = p.index + 1 } })))
+        ≡ arrived s p (step_unless o p.index (Ok (Some (found_at s p))))
+    told (Ok tt) = refl
+    told (Err r) = refl
 
 -- What is left from a place on, after the outcome of the whole list's checks.
 unfoldable pub resumed : Outcome → List ℕ → Place → Result ℕ ListRefusal
-resumed o s p = unless_refused (λ r. ErrAt r 0) o (entries_from (count_of s - p.index) s p.at p.index)
+resumed o s p = unless_refused (refused_at 0) o (entries_from (count_of s - p.index) s p.at p.index)
 
 -- past an entry: it is that of the place, accepted by the entry's rule, and what is left is what is left from the next place
 pub record Past (o : Outcome) (s : List ℕ) (p : Place) (f : Found) (q : Place) : Type 0 where
@@ -139,7 +153,7 @@ pub record Past (o : Outcome) (s : List ℕ) (p : Place) (f : Found) (q : Place)
 abbrev pub Says : Outcome → List ℕ → Place → Result (Option Found) ListRefusal → Place → Type 0
 Says o s p (Ok (Some f)) q = Past o s p f q
 Says o s p (Ok None) q = resumed o s p ≡ Ok p.index
-Says o s p (ErrAt r i) q = resumed o s p ≡ ErrAt r i
+Says o s p (Err r) q = resumed o s p ≡ Err r
 
 one_left : (n m : ℕ) → m < n → n - m ≡ suc (n - (m + 1))
 one_left n m h = omega arith
@@ -148,7 +162,7 @@ none_left : (n m : ℕ) → n ≤ m → n - m ≡ 0
 none_left n m h = omega arith
 
 -- A turn of the judge: what is left from a place on is a refusal, or what is left from the next place on.
-pub turn_refused : (s : List ℕ) (at index : ℕ) (r : Refusal) → index < count_of s → judged_at s at ≡ Err r → entries_from (count_of s - index) s at index ≡ ErrAt r index
+pub turn_refused : (s : List ℕ) (at index : ℕ) (r : Refusal) → index < count_of s → judged_at s at ≡ Err r → entries_from (count_of s - index) s at index ≡ refused_at index r
 unfolding judged_at entries_from unless_refused
 turn_refused s at index r h e = rw (one_left (count_of s) index h, told_refused s at r (first_of (place_checks s at)) e)
 
@@ -215,7 +229,7 @@ span_inside s p which = told (step_of s p) (stepped s p (advance_of s p) refl)
     told : (t : Result (Option Found) ListRefusal) → Says (first_of (list_checks s)) s p t (place_after t s p) → (step_span t which).at + (step_span t which).len ≤ length s
     told (Ok (Some f)) past = (stands past which).0
     told (Ok None) said = omega arith
-    told (ErrAt r index) said = omega arith
+    told (Err r) said = omega arith
 
 pub part_own : (s : List ℕ) (p : Place) (f : Found) (which : EntryPart) → step_of s p ≡ Ok (Some f) → list_part s p which ≡ entry_part (record_at s p.at) which
 unfolding arrived

@@ -43,28 +43,32 @@ unfoldable pub bounds_span : Result Span Refusal → Span
 bounds_span (Ok span) = span
 bounds_span (Err r) = record { at = 0; len = 0 }
 
+-- a refusal, with the index of the entry that it is given for; 0 where it is given for the whole list, or for bytes left
+abbrev pub refused_at : {A : Type 0} → ℕ → Refusal → Result A ListRefusal
+refused_at index r = Err (record { refusal = r; index = index })
+
 -- then the entry's checks
 unfoldable pub place_checks : List ℕ → ℕ → List Check
 place_checks s at = extent_checks s at ++ entry_checks (record_at s at)
 
 -- n entries from a place on, in turn; each refusal given for an entry tells its index; last 22, which tells none
 unfoldable pub entries_from : ℕ → List ℕ → ℕ → ℕ → Result ℕ ListRefusal
-entries_from zero s at index = cond (eqb at (length s)) (Ok index) (ErrAt BytesLeft 0)
-entries_from (suc n) s at index = unless_refused (λ r. ErrAt r index) (first_of (place_checks s at)) (entries_from n s (at + length_at s at) (index + 1))
+entries_from zero s at index = cond (eqb at (length s)) (Ok index) (refused_at 0 BytesLeft)
+entries_from (suc n) s at index = unless_refused (refused_at index) (first_of (place_checks s at)) (entries_from n s (at + length_at s at) (index + 1))
 
 -- what the judge answers: 1, 2 (which tell no index), then the entries from byte 4 on
 unfoldable pub list_of : List ℕ → Result ℕ ListRefusal
-list_of s = unless_refused (λ r. ErrAt r 0) (first_of (list_checks s)) (entries_from (count_of s) s 4 0)
+list_of s = unless_refused (refused_at 0) (first_of (list_checks s)) (entries_from (count_of s) s 4 0)
 
 -- document 01's numbers: 0 and the count; or the refusal's number, no count, and the index told
 unfoldable pub list_number : Result ℕ ListRefusal → ℕ
 list_number (Ok count) = 0
-list_number (ErrAt r index) = number_of r
+list_number (Err e) = number_of e.refusal
 
 unfoldable pub list_count : Result ℕ ListRefusal → ℕ
 list_count (Ok count) = count
-list_count (ErrAt r index) = 0
+list_count (Err e) = 0
 
 unfoldable pub list_index : Result ℕ ListRefusal → ℕ
 list_index (Ok count) = 0
-list_index (ErrAt r index) = index
+list_index (Err e) = e.index

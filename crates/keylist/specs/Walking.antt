@@ -8,11 +8,11 @@ use Rattle.keylist.specs.Stepping.{advance_of}
 
 -- the walk over a lent list, at a place
 abbrev pub walk_at : Bor (List ℕ) → Place → Walk
-walk_at list p = record { list = list; at = p.at; index = p.index }
+walk_at list p = record { list = list; place = p }
 
 -- the step that a walk takes, with the place after it
 abbrev pub advanced : Walk → Advance
-advanced w = advance_of w.list.now (record { at = w.at; index = w.index })
+advanced w = advance_of w.list.now w.place
 
 -- the walk after that step: the same list, at the place after it
 abbrev pub walked_on : Walk → Walk

@@ -1,62 +1,59 @@
 // Document 01, "Key List Entry and list": a list of Key List Entries, judged whole and walked entry by entry.
 #![tactic(auto)]
 
-ghost use Rattle.std.specs.Prelude.{◌≡◌, ◌+◌, ◌≤◌, length};
+ghost use Rattle.std.specs.Prelude.{◌≡◌, ◌+◌, ◌≤◌, ◌<◌, length};
 ghost use Rattle.refusal.specs.Chain.{first_of};
 ghost use Rattle.refusal.specs.Number.{outcome_number};
 ghost use Rattle.keylist.specs.Reading.{extent_checks, extent_of, bounds_number, bounds_span, list_of};
-ghost use Rattle.keylist.specs.Passing.{judged_at};
+ghost use Rattle.keylist.specs.Passing.{judged_at, entered};
 ghost use Rattle.keylist.specs.Stepping.{end_at, arrived, advance_of, list_span, list_part};
 
-use keyentry::{Entry, EntryPart, EntryRead};
+use keyentry::{Entry, EntryPart};
 use records::LIMIT;
 use refusal::Refusal;
 use wire::{Span, le32_at};
 
 pub mod walk;
 
-// The count of an accepted list; or the refusal, with the index of the entry that it is given for (0 where none is told).
-#[derive(Clone, Copy)]
-pub enum ListRead {
-    Count(u32),
-    Refused(Refusal, u32),
-}
-
-// Where the record at a place lies, or the refusal that the list rule gives it.
-#[derive(Clone, Copy)]
-pub enum Bounds {
-    Record(Span),
-    Refused(Refusal),
+// Why a list is refused, with the index of the entry that the refusal is given for (0 where none is told).
+#[derive(Clone, Copy, Debug, PartialEq, Eq)]
+pub struct ListRefusal {
+    pub refusal: Refusal,
+    pub index: u32,
 }
 
 // Where a walk stands: the offset of the next entry, and its index.
-#[derive(Clone, Copy)]
+#[derive(Clone, Copy, Debug, PartialEq, Eq)]
 pub struct Place {
     pub at: usize,
     pub index: u32,
 }
 
 // An entry of a list: its index, its offset in the list, and what its reader shows, with places counted from its first byte.
-#[derive(Clone, Copy)]
+#[derive(Clone, Copy, Debug, PartialEq, Eq)]
 pub struct Found {
     pub index: u32,
     pub at: usize,
     pub entry: Entry,
 }
 
-// What a step of the walk finds.
-#[derive(Clone, Copy)]
-pub enum Step {
-    Entry(Found),
-    End,
-    Refused(Refusal, u32),
-}
+// What a step of the walk finds: an entry, or none at the end.
+pub type Step = Result<Option<Found>, ListRefusal>;
 
 // A step, and the place after it.
-#[derive(Clone, Copy)]
+#[derive(Clone, Copy, Debug, PartialEq, Eq)]
 pub struct Advance {
     pub step: Step,
     pub place: Place,
+}
+
+impl ListRefusal {
+    // A refusal that is given for no entry.
+    fn whole(refusal: Refusal) -> ListRefusal
+        ensures { result ≡ record { refusal = refusal; index = 0 } }
+    {
+        ListRefusal { refusal, index: 0 }
+    }
 }
 
 impl Place {
@@ -70,29 +67,38 @@ pub fn next_step(list: &[u8], place: Place) -> Advance
     ensures { result ≡ advance_of list.now place }
 {
     if LIMIT < list.len() {
-        return stay(ErrAt(Refusal::TooLong, 0), place);
+        return stay(Err(ListRefusal::whole(Refusal::TooLong)), place);
     }
     if list.len() < 4 {
-        return stay(ErrAt(Refusal::Short, 0), place);
+        return stay(Err(ListRefusal::whole(Refusal::Short)), place);
     }
     if le32_at(list, 0) <= place.index {
         return finish(list, place);
     }
-    let at = place.at;
-    let index = place.index;
-    match extent(list, at) {
-        Err(refusal) => stay(ErrAt(refusal, index), place),
-        Ok(span) => match keyentry::read(wire::part(list, span)) {
-            Ok(entry) => Advance {
-                step: Ok(Some(Found { index, at, entry })),
-                place: Place {
-                    at: at + span.len,
-                    index: index + 1,
-                },
-            },
-            Err(refusal) => stay(ErrAt(refusal, index), place),
-        },
+    match enter(list, place) {
+        Ok(advance) => advance,
+        Err(refusal) => {
+            let index = place.index;
+            stay(Err(ListRefusal { refusal, index }), place)
+        }
     }
+}
+
+// The entry at a place and the place behind it, where the list rule and the entry's reader accept it.
+fn enter(list: &[u8], place: Place) -> Result<Advance, Refusal>
+    requires { place.index < 4294967295 }
+    ensures { result ≡ entered list.now place }
+{
+    let Place { at, index } = place;
+    let span = extent(list, at)?;
+    let entry = keyentry::read(wire::part(list, span))?;
+    Ok(Advance {
+        step: Ok(Some(Found { index, at, entry })),
+        place: Place {
+            at: at + span.len,
+            index: index + 1,
+        },
+    })
 }
 
 // A part of the entry at a place: those very bytes of the list, or the empty part where the step there shows no entry.
@@ -100,26 +106,29 @@ pub fn part(list: &[u8], place: Place, which: EntryPart) -> &[u8]
     ensures bytes { result.now ≡ list_part list.now place which }
     ensures place { (result.ref_ptr.0 ≡ list.entry.ref_ptr.0) × (result.ref_ptr.1 ≡ list.entry.ref_ptr.1 + (list_span list.now place which).at) }
 {
-    let step = next_step(list, place).step;
-    match step {
+    wire::part(list, part_at(list, place, which))
+}
+
+// Where that part stands in the list; empty at 0 where the step shows no entry.
+#[tactic(auto, unfolding(crate::specs::Stepping::arrived, crate::specs::Stepping::step_span))]
+fn part_at(list: &[u8], place: Place, which: EntryPart) -> Span
+    ensures { result ≡ list_span list.now place which }
+{
+    match next_step(list, place).step {
         Ok(Some(found)) => {
-            let entry = found.entry;
-            let span = Ok(entry).span(which);
-            wire::part(
-                list,
-                Span {
-                    at: found.at + span.at,
-                    len: span.len,
-                },
-            )
+            let span = found.entry.span(which);
+            Span {
+                at: found.at + span.at,
+                len: span.len,
+            }
         }
-        Ok(None) => wire::part(list, Span { at: 0, len: 0 }),
-        ErrAt(_, _) => wire::part(list, Span { at: 0, len: 0 }),
+        Ok(None) => Span { at: 0, len: 0 },
+        Err(_) => Span { at: 0, len: 0 },
     }
 }
 
 // The list rule: the record at a place is its Length bytes, 20 at least, which lie inside; else 2 or 3.
-pub fn extent(list: &[u8], at: usize) -> Bounds
+pub fn extent(list: &[u8], at: usize) -> Result<Span, Refusal>
     ensures answer { result ≡ extent_of list.now at }
     ensures number { bounds_number result ≡ outcome_number (first_of (extent_checks list.now at)) }
     ensures inside { (bounds_span result).at + (bounds_span result).len ≤ length list.now }
@@ -145,7 +154,7 @@ fn finish(list: &[u8], place: Place) -> Advance
     if place.at == list.len() {
         return stay(Ok(None), place);
     }
-    stay(ErrAt(Refusal::BytesLeft, 0), place)
+    stay(Err(ListRefusal::whole(Refusal::BytesLeft)), place)
 }
 
 // A final step: the place stays.
@@ -156,44 +165,34 @@ fn stay(step: Step, place: Place) -> Advance
 }
 
 // The record at a place, where the list rule and the entry's reader accept it.
-fn judge_at(list: &[u8], at: usize) -> Bounds
+fn judge_at(list: &[u8], at: usize) -> Result<Span, Refusal>
     ensures { result ≡ judged_at list.now at }
 {
-    match extent(list, at) {
-        Err(refusal) => Err(refusal),
-        Ok(span) => match keyentry::read(wire::part(list, span)) {
-            Ok(_) => Ok(span),
-            Err(refusal) => Err(refusal),
-        },
-    }
+    let span = extent(list, at)?;
+    keyentry::read(wire::part(list, span))?;
+    Ok(span)
 }
 
 // The list's count, or its refusal, in one pass.
-pub fn judge(list: &[u8]) -> ListRead
+pub fn judge(list: &[u8]) -> Result<u32, ListRefusal>
     ensures { result ≡ list_of list.now }
 {
     if LIMIT < list.len() {
-        return ErrAt(Refusal::TooLong, 0);
+        return Err(ListRefusal::whole(Refusal::TooLong));
     }
     if list.len() < 4 {
-        return ErrAt(Refusal::Short, 0);
+        return Err(ListRefusal::whole(Refusal::Short));
     }
     let count = le32_at(list, 0);
     let mut at = 4;
-    let mut index = 0;
-    while index < count {
+    for index in 0..count {
         match judge_at(list, at) {
-            Ok(span) => {
-                at += span.len;
-                index += 1;
-            }
-            Err(refusal) => {
-                return ErrAt(refusal, index);
-            }
+            Ok(span) => at += span.len,
+            Err(refusal) => return Err(ListRefusal { refusal, index }),
         }
     }
     if at == list.len() {
-        return Ok(index);
+        return Ok(count);
     }
-    ErrAt(Refusal::BytesLeft, 0)
+    Err(ListRefusal::whole(Refusal::BytesLeft))
 }

@@ -5,12 +5,11 @@ ghost use Rattle.keylist.specs.Walking.{walk_at, advanced, walked_on};
 
 use crate::{Place, Step, next_step};
 
-// A walk: the lent list, the offset of the next entry, and its index.
-#[derive(Drop)]
+// A walk: the lent list, and the place of the next entry.
+#[derive(Debug, PartialEq, Eq, Drop)]
 pub struct Walk<'a> {
     list: &'a [u8],
-    at: usize,
-    index: u32,
+    place: Place,
 }
 
 impl<'a> Walk<'a> {
@@ -18,11 +17,9 @@ impl<'a> Walk<'a> {
     pub fn over(list: &'a [u8]) -> Walk<'a>
         ensures { result ≡ walk_at list.entry start }
     {
-        let start = Place::START;
         Walk {
             list,
-            at: start.at,
-            index: start.index,
+            place: Place::START,
         }
     }
 
@@ -31,15 +28,8 @@ impl<'a> Walk<'a> {
     pub fn next(&mut self) -> Step
         ensures { (result ≡ (advanced self.old).step) × (self.new ≡ walked_on self.old) }
     {
-        let advance = next_step(
-            self.list,
-            Place {
-                at: self.at,
-                index: self.index,
-            },
-        );
-        self.at = advance.place.at;
-        self.index = advance.place.index;
+        let advance = next_step(self.list, self.place);
+        self.place = advance.place;
         advance.step
     }
 }

@@ -1,9 +1,9 @@
 -- Laws of pieces put behind text, in lent bytes and in a line.
 use Rattle.lemmas.proofs.Basics.{ℕ, ◌+◌, ◌-◌, ◌≤◌, ◌<◌, arith, List, [], ◌∷◌, ◌++◌, append-nil, append_assoc, ◌≡◌, refl, sym, ap, ◌∙◌, leb, length, take, drop, length-append, length-take, length-drop, length-take-le, take_at, drop-drop, le-leb, lt-leb, leb-true, leb-false}
-use borrow.Rule.Slice.PartMut.{mid_of, put_mid, mid_len, Post-is}
+use borrow.Rule.Slice.PartMut.{put_mid, Post-is}
 use Rattle.lemmas.proofs.Cases.{by_cases, cond_cases}
 use Rattle.wire.specs.Parts.{onto, joined}
-use Rattle.wire.proofs.Writing.{onto_in, onto-whole, length-onto, take-onto, drop-onto}
+use Rattle.wire.proofs.Writing.{onto_in, length-onto, take-onto, drop-onto}
 use Rattle.line.specs.Text.{room, behind, laid, Buffer, buffer, put, put_all}
 
 pub behind_in : (text piece : List ℕ) → length text + length piece ≤ room → behind text piece ≡ text ++ piece
@@ -21,13 +21,10 @@ unfolding put
 put_out bytes piece len h = rw (lt-leb (len + length piece) (length bytes) h)
 
 -- The part behind the text is lent, filled with the piece, and comes back.
-pub put_filled : (bytes piece : List ℕ) (len : ℕ) {last : List ℕ} → len + length piece ≤ length bytes
-    → last ≡ onto piece (mid_of len (len + length piece - len) bytes)
-    → buffer (put_mid len (len + length piece - len) bytes last) (len + length piece) ≡ put (buffer bytes len) piece
-put_filled bytes piece len {last} fits e =
-    let size : length piece ≡ length (mid_of len (len + length piece - len) bytes) = sym (mid_len len (len + length piece) bytes fits ∙ omega arith) in
-    let filled : last ≡ piece = e ∙ onto-whole piece _ size in
-    rw (filled, Post-is len (len + length piece) bytes (omega arith)) (sym (put_in bytes piece len fits))
+pub put_filled : (bytes piece : List ℕ) (len end : ℕ) {last : List ℕ} → end ≡ len + length piece → end ≤ length bytes → last ≡ piece
+    → buffer (put_mid len (end - len) bytes last) end ≡ put (buffer bytes len) piece
+put_filled bytes piece len end {last} is fits filled =
+    rw (is, filled, Post-is len (len + length piece) bytes (omega arith)) (sym (put_in bytes piece len (omega arith)))
 
 -- the text so far
 abbrev pub text_in : Buffer → List ℕ
@@ -51,8 +48,8 @@ put-behind bytes piece len long =
     (λ q. let over = leb-false _ _ q in
     ap text_in (put_out bytes piece len over) ∙ left_out bytes piece len long (omega arith))
 
--- Pieces put one after the other are laid behind the line.
-length-put : (bytes piece : List ℕ) (len : ℕ) → length (put (buffer bytes len) piece).bytes ≡ length bytes
+-- The bytes stay as many, and the text stays inside them.
+pub length-put : (bytes piece : List ℕ) (len : ℕ) → length (put (buffer bytes len) piece).bytes ≡ length bytes
 length-put bytes piece len =
     by_cases (λ _. length (put (buffer bytes len) piece).bytes ≡ length bytes) (leb (len + length piece) (length bytes))
     (λ q. let fits = leb-true _ _ q in
@@ -61,6 +58,13 @@ length-put bytes piece len =
     ap (λ b. length b.bytes) (put_in bytes piece len fits) ∙ whole)
     (λ q. ap (λ b. length b.bytes) (put_out bytes piece len (leb-false _ _ q)))
 
+pub len-put : (bytes piece : List ℕ) (len : ℕ) → len ≤ length bytes → (put (buffer bytes len) piece).len ≤ length bytes
+len-put bytes piece len h =
+    by_cases (λ _. (put (buffer bytes len) piece).len ≤ length bytes) (leb (len + length piece) (length bytes))
+    (λ q. let fits = leb-true (len + length piece) (length bytes) q in omega (arith, ap (λ b. b.len) (put_in bytes piece len fits)))
+    (λ q. omega (arith, ap (λ b. b.len) (put_out bytes piece len (leb-false _ _ q))))
+
+-- Pieces put one after the other are laid behind the line.
 pub put-append : (b : Buffer) (pieces others : List (List ℕ)) → put_all (put_all b pieces) others ≡ put_all b (pieces ++ others)
 unfolding put_all
 put-append b [] others = refl
@@ -106,9 +110,3 @@ fits-joined text (piece ∷ pieces) h =
     let size = length-append (text ++ piece) (joined pieces) in
     let fits : length (text ++ piece ++ joined pieces) ≤ room = rw next at h in
     rw (next, behind_in text piece (omega (arith, length-append text piece))) (fits-joined (text ++ piece) pieces fits)
-
--- One piece more behind pieces.
-pub laid_next : (text : List ℕ) (pieces : List (List ℕ)) (piece : List ℕ) → behind (laid text pieces) piece ≡ laid text (pieces ++ (piece ∷ []))
-unfolding laid
-laid_next text [] piece = refl
-laid_next text (first ∷ pieces) piece = laid_next (behind text first) pieces piece

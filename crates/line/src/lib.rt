@@ -2,51 +2,82 @@
 // is total: a piece that does not fit is left out.
 #![tactic(auto)]
 
-ghost use Rattle.std.specs.Prelude.{◌≡◌, []};
-ghost use Rattle.line.specs.Text.{decimal_of, text_of, behind, buffer, put};
+ghost use Rattle.std.specs.Prelude.{◌≤◌};
 
 // How many bytes a line holds.
 pub const ROOM: usize = 256;
 
-// A line of text: the first `len` of its bytes.
-#[derive(Clone, Copy)]
-pub struct Line {
-    pub bytes: [u8; ROOM],
+// Bytes, of which the first are text so far.
+pub trait Text {
+    ghost use Rattle.std.specs.Prelude.{◌≡◌};
+    ghost use Rattle.std.specs.Borrow.{GName};
+    ghost use Rattle.line.specs.Text.{Buffer, put, decimal_of};
+
+    ghost buffer: { Self → Buffer };
+
+    // Whose bytes they are.
+    ghost lender: { Self → GName };
+
+    // A piece put behind the text; left out where it does not fit.
+    fn text(&mut self, s: &[u8])
+        ensures put { buffer self.new ≡ put (buffer self.old) s.now }
+        ensures lender { lender self.new ≡ lender self.old };
+
+    // A number in decimal, put behind the text. Its digits are made from the last one on.
+    fn number(&mut self, n: u64)
+        ensures put { buffer self.new ≡ put (buffer self.old) (decimal_of n) }
+        ensures lender { lender self.new ≡ lender self.old }
+    {
+        let mut digits = [0u8; 20];
+        let mut rest = n;
+        let mut i = 19;
+        while rest >= 10 {
+            digits[i] = 48 + (rest % 10) as u8;
+            rest /= 10;
+            i -= 1;
+        }
+        digits[i] = 48 + rest as u8;
+        self.text(&digits[i..])
+    }
+}
+
+// Lent bytes, of which the first `len` are text so far.
+#[derive(Drop)]
+pub struct Lent<'a> {
+    pub bytes: &'a mut [u8],
     pub len: usize,
 }
 
-// Text put behind the first `len` of lent bytes, which are text so far; left out where it does not fit. The answer is how many of the
-// bytes are text now.
-pub fn put_text(out: &mut [u8], len: usize, s: &[u8]) -> usize
-    ensures { buffer out.new result ≡ put (buffer out.old len) s.now }
-{
-    if len <= out.len() {
-        if s.len() <= out.len() - len {
-            let end = len + s.len();
-            wire::copy_into(&mut out[len..end], s);
-            return end;
+impl Text for Lent<'_> {
+    ghost use Rattle.line.specs.Text.{buffer};
+
+    ghost buffer = { λ t. buffer t.bytes.now t.len };
+
+    ghost lender = { λ t. t.bytes.ghost_name };
+
+    fn text(&mut self, s: &[u8]) {
+        if self.len <= self.bytes.len() {
+            if s.len() <= self.bytes.len() - self.len {
+                let end = self.len + s.len();
+                self.bytes[self.len..end].copy_from_slice(s);
+                self.len = end;
+            }
         }
     }
-    len
 }
 
-// A number in decimal, put behind the text. Its digits are made from the last one on.
-pub fn put_number(out: &mut [u8], len: usize, n: u64) -> usize
-    ensures { buffer out.new result ≡ put (buffer out.old len) (decimal_of n) }
-{
-    let mut digits = [0u8; 20];
-    let mut rest = n;
-    let mut i = 19;
-    while rest >= 10 {
-        digits[i] = 48 + (rest % 10) as u8;
-        rest /= 10;
-        i -= 1;
-    }
-    digits[i] = 48 + rest as u8;
-    put_text(out, len, &digits[i..])
+// A line of text: the first `len` of its bytes.
+#[derive(Clone, Copy)]
+pub struct Line {
+    bytes: [u8; ROOM],
+    len: usize,
+    ghost in_room: { len ≤ 256 },
 }
 
 impl Line {
+    ghost use Rattle.std.specs.Prelude.{◌≡◌, []};
+    ghost use Rattle.line.specs.Text.{text_of};
+
     // The empty line.
     pub fn new() -> Line
         ensures { text_of result ≡ [] }
@@ -57,21 +88,27 @@ impl Line {
         }
     }
 
-    // Text put behind the line; left out where it does not fit.
-    pub fn text(self, s: &[u8]) -> Line
-        ensures { text_of result ≡ behind (text_of self) s.now }
+    // The text.
+    pub fn as_bytes(&self) -> &[u8]
+        ensures { result.now ≡ text_of self.now }
     {
-        let mut bytes = self.bytes;
-        let len = put_text(&mut bytes, self.len, s);
-        Line { bytes, len }
+        &self.bytes[..self.len]
     }
+}
 
-    // A number in decimal, put behind the line.
-    pub fn number(self, n: u64) -> Line
-        ensures { text_of result ≡ behind (text_of self) (decimal_of n) }
-    {
-        let mut bytes = self.bytes;
-        let len = put_number(&mut bytes, self.len, n);
-        Line { bytes, len }
+impl Text for Line {
+    ghost use Rattle.line.specs.Text.{buffer};
+
+    ghost buffer = { λ t. buffer t.bytes t.len };
+
+    ghost lender = { λ t. 0 };
+
+    fn text(&mut self, s: &[u8]) {
+        let mut lent = Lent {
+            bytes: &mut self.bytes,
+            len: self.len,
+        };
+        lent.text(s);
+        self.len = lent.len;
     }
 }

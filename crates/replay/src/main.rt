@@ -12,7 +12,6 @@ ghost use Rattle.report.specs.Replaying.{after, report_of};
 ghost use Rattle.replay.specs.Cut.{OnlyLines};
 
 use input::Input;
-use line::ROOM;
 use report::{State, Stopped};
 use std::env::{Env, FillError};
 use std::fmt;
@@ -155,10 +154,7 @@ fn print_total<W: Write>(to: &mut W, tally: Tally) -> Result<(), Failure>
     ensures written { OnOk result (Appends (W.contents to.old) (W.contents to.new) (total_line tally)) }
     ensures failed { OnErr result (result ≡ Err Failure.Write) }
 {
-    let line = report::total_line(tally);
-    let bytes = line.bytes;
-    let len = line.len.min(ROOM);
-    write(to, &bytes[..len])
+    write(to, report::total_line(tally).as_bytes())
 }
 
 fn write<W: Write>(to: &mut W, bytes: &[u8]) -> Result<(), Failure>

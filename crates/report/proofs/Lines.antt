@@ -1,29 +1,31 @@
 -- A line fits in its room, and the total's line in a line.
-use Rattle.lemmas.proofs.Basics.{ℕ, ◌≤◌, arith, List, [], ◌≡◌, ◌∙◌, length, take, length-take}
-use Rattle.std.specs.Prelude.{Result, Err}
+use Rattle.lemmas.proofs.Basics.{ℕ, ◌≤◌, arith, List, [], ◌≡◌, refl, ap, ◌∙◌, length, take}
+use Rattle.std.specs.Prelude.{Result, Ok, Err, Option, Some, None}
 use Rattle.refusal.specs.declared.Refusal.{Refusal}
 use Rattle.refusal.specs.Number.{number_of}
-use Rattle.wire.specs.Parts.{part_of}
-use Rattle.wire.proofs.Parts.{part_in}
 use Rattle.wire.proofs.Writing.{length-joined}
+use Rattle.getkey.specs.declared.Granted.{Granted}
 use Rattle.tally.specs.declared.Tally.{Tally}
-use Rattle.line.specs.Text.{room, laid}
+use Rattle.line.specs.Text.{room, laid, Buffer, buffer, put_all}
 use Rattle.line.proofs.Decimals.{length_decimal}
-use Rattle.line.proofs.Lines.{fits-joined}
+use Rattle.line.proofs.Lines.{text_in, put-laid, fits-joined}
 use Rattle.words.specs.Words.{identifier_words, refused_words}
 use Rattle.words.proofs.Lengths.{length_form}
-use Rattle.report.specs.Lines.{answer_words, line_words, line_of, total_words, total_line}
+use Rattle.report.specs.Lines.{row_words, answer_words, line_words, line_of, total_words, total_line}
 use Rattle.report.specs.Replaying.{line_room}
 
 -- No line is longer than its room.
-pub length_line : (n : ℕ) (a : Result OkRow Refusal) → length (line_of n a) ≤ line_room
-unfolding line_of line_words answer_words identifier_words refused_words
-length_line n (OkRow at form row) =
-    rw length-joined
-    (omega (arith, length_decimal 20 n, length_decimal 20 at.l0.0, length_decimal 20 at.l1.0, length_decimal 20 at.l2.0, length_form form, length_decimal 20 row))
-length_line n (OkCreate at form) =
-    rw length-joined
-    (omega (arith, length_decimal 20 n, length_decimal 20 at.l0.0, length_decimal 20 at.l1.0, length_decimal 20 at.l2.0, length_form form))
+pub length_line : (n : ℕ) (a : Result Granted Refusal) → length (line_of n a) ≤ line_room
+unfolding line_of line_words answer_words row_words identifier_words refused_words
+length_line n (Ok granted) = with_row granted.row refl
+  where
+    with_row : (row : Option ℕ) → granted.row ≡ row → length (line_of n (Ok granted)) ≤ line_room
+    with_row (Some row) e =
+        rw (e, length-joined)
+        (omega (arith, length_decimal 20 n, length_decimal 20 granted.at.l0.0, length_decimal 20 granted.at.l1.0, length_decimal 20 granted.at.l2.0, length_form granted.form, length_decimal 20 row))
+    with_row None e =
+        rw (e, length-joined)
+        (omega (arith, length_decimal 20 n, length_decimal 20 granted.at.l0.0, length_decimal 20 granted.at.l1.0, length_decimal 20 granted.at.l2.0, length_form granted.form))
 length_line n (Err r) = rw length-joined (omega (arith, length_decimal 20 n, length_decimal 20 (number_of r)))
 
 pub length-total : (t : Tally) → length (total_line t) ≤ line_room
@@ -35,8 +37,7 @@ pub total-laid : (t : Tally) → laid [] (total_words t) ≡ total_line t
 unfolding total_line
 total-laid t = fits-joined [] (total_words t) (omega (arith, length-total t))
 
--- The total's line, as the part of a line's bytes that is its text.
-pub total_part : (t : Tally) (bytes : List ℕ) (len : ℕ) → length bytes ≡ room → take len bytes ≡ total_line t → part_of bytes 0 len ≡ total_line t
-total_part t bytes len long text =
-    let short : length (take len bytes) ≤ line_room = rw text (length-total t) in
-    part_in bytes 0 len (omega (arith, length-take len bytes)) ∙ text
+-- They are the text of a line in which they were put behind no text.
+pub total-put : (t : Tally) (bytes : List ℕ) (len : ℕ) {b : Buffer} → length bytes ≡ room → take len bytes ≡ [] → b ≡ put_all (buffer bytes len) (total_words t)
+    → text_in b ≡ total_line t
+total-put t bytes len long empty put = ap text_in put ∙ put-laid (total_words t) bytes len long ∙ rw empty (total-laid t)

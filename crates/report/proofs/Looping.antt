@@ -1,6 +1,6 @@
 -- The loop of a replay: what is done so far, and that what is left gives the whole.
 use Rattle.lemmas.proofs.Basics.{ℕ, ◌+◌, ◌-◌, ◌*◌, ◌≤◌, ◌<◌, min, arith, sub-zero, append-nil, append_assoc, Bool, true, false, cond, List, [], ◌∷◌, ◌++◌, ◌≡◌, refl, sym, ap, ap₂, ◌∙◌, leb, length, take, drop, take_all, length-append, length-drop, drop-drop, drop_of_length-le, lt-ltb, le-ltb, leb-true, leb-false}
-use Rattle.std.specs.Prelude.{Result, None}
+use Rattle.std.specs.Prelude.{Result, Option, Some, None}
 use Rattle.refusal.specs.declared.Refusal.{Refusal}
 use Rattle.getkey.specs.declared.Granted.{Granted}
 use Rattle.lemmas.proofs.Cases.{by_cases}
@@ -15,7 +15,7 @@ use Rattle.report.specs.declared.Stopped.{Stopped}
 use Rattle.report.specs.declared.Stopped.TheVariants.{Records, Room, Full}
 use Rattle.report.specs.Records.{records_of, has_record, answer_to}
 use Rattle.report.specs.Lines.{line_words, line_of}
-use Rattle.report.specs.Replaying.{after, counts, step_of, line_room, Replayed, halt, behind, replay_of, progress_of}
+use Rattle.report.specs.Replaying.{stepped, after, counts, step_of, line_room, Replayed, halt, behind, replay_of, progress_of}
 use Rattle.report.proofs.Lines.{length_line}
 use Rattle.report.proofs.Chunks.{records_next, records-none}
 
@@ -26,18 +26,19 @@ pub record Took (table : List ℕ) (st : State) (s : List ℕ) (n : ℕ) (a : Re
   pub answer : a ≡ answer_to table s
   pub state : next ≡ after table st (s ∷ [])
 
-step_took : (table : List ℕ) (st : State) (s : List ℕ) {n : ℕ} {a : Result Granted Refusal} {next : State} → step_of table st s ≡ SomeLine n a next → Took table st s n a next
+step_took : (table : List ℕ) (st : State) (s : List ℕ) {n : ℕ} {a : Result Granted Refusal} {next : State} → step_of table st s ≡ Some (stepped n a next) → Took table st s n a next
 unfolding step_of
 step_took table st s {n} {a} {next} e =
-    by_cases (λ t. cond t (SomeLine st.next (answer_to table s) (after table st (s ∷ []))) None ≡ SomeLine n a next → Took table st s n a next) (counts table st s)
-    (λ q w. record { counted = q; number = cc; answer = cc; state = cc })
+    by_cases (λ t. cond t (Some (stepped st.next (answer_to table s) (after table st (s ∷ [])))) None ≡ Some (stepped n a next) → Took table st s n a next) (counts table st s)
+    (λ q w. let same : stepped n a next ≡ stepped st.next (answer_to table s) (after table st (s ∷ [])) = cc in
+    record { counted = q; number = ap (λ w. w.number) same; answer = ap (λ w. w.answer) same; state = ap (λ w. w.state) same })
     (λ q w. let z : ◌≡◌ {A = ℕ} 0 1 = cc in absurd (omega arith))
     e
 
 step_full : (table : List ℕ) (st : State) (s : List ℕ) → step_of table st s ≡ None → counts table st s ≡ false
 unfolding step_of
 step_full table st s e =
-    by_cases (λ t. cond t (SomeLine st.next (answer_to table s) (after table st (s ∷ []))) None ≡ None → t ≡ false) (counts table st s)
+    by_cases (λ t. cond t (Some (stepped st.next (answer_to table s) (after table st (s ∷ [])))) None ≡ None → t ≡ false) (counts table st s)
     (λ q w. let z : ◌≡◌ {A = ℕ} 0 1 = cc in absurd (omega arith))
     (λ q w. refl)
     e
@@ -98,7 +99,7 @@ module _ {table chunk lent : List ℕ} {ends : Bool} {first : State} {out left :
 
   -- One record more.
   pub replaying_again : {n : ℕ} {a : Result Granted Refusal} {next : State} {now : List ℕ} {end : ℕ} → has_record ends (length left) ≡ true → line_room ≤ length lent - written
-      → step_of table st (take 37 left) ≡ SomeLine n a next → buffer now end ≡ put_all (buffer out written) (line_words n a)
+      → step_of table st (take 37 left) ≡ Some (stepped n a next) → buffer now end ≡ put_all (buffer out written) (line_words n a)
       → Replaying table chunk lent ends first now (drop 37 left) next end
   unfolding line_of
   replaying_again {n} {a} {next} {now} {end} has enough stepped put =

@@ -1,24 +1,29 @@
 -- Document 02, No. 7: the lines of a replay, newline-ended.
-use Rattle.std.specs.Prelude.{ℕ, ◌+◌, List, [], ◌∷◌, ◌++◌, length, Result, Ok, Err}
+use Rattle.std.specs.Prelude.{ℕ, ◌+◌, List, [], ◌∷◌, ◌++◌, length, Result, Ok, Err, Option, Some, None}
 use Rattle.refusal.specs.declared.Refusal.{Refusal}
 use Rattle.wire.specs.Parts.{joined}
 use Rattle.records.specs.Writing.{written_of}
+use Rattle.getkey.specs.declared.Granted.{Granted}
 use Rattle.line.specs.Text.{space, newline, decimal_of}
 use Rattle.words.specs.Words.{form_word, identifier_words, refused_words}
 use Rattle.tally.specs.declared.Tally.{Tally}
 use Rattle.report.specs.Records.{answer_to}
 
--- the identifier, the form, then ROW and its number, or CREATE in their place; or REFUSED and the number
-unfoldable pub answer_words : Result OkRow Refusal → List (List ℕ)
-answer_words (OkRow at form row) = identifier_words at ++ (space ∷ form_word form ∷ (32 ∷ 82 ∷ 79 ∷ 87 ∷ 32 ∷ []) ∷ decimal_of row ∷ [])
-answer_words (OkCreate at form) = identifier_words at ++ (space ∷ form_word form ∷ (32 ∷ 67 ∷ 82 ∷ 69 ∷ 65 ∷ 84 ∷ 69 ∷ []) ∷ [])
+-- ROW and its number, or CREATE in their place
+unfoldable pub row_words : Option ℕ → List (List ℕ)
+row_words (Some row) = (32 ∷ 82 ∷ 79 ∷ 87 ∷ 32 ∷ []) ∷ decimal_of row ∷ []
+row_words None = (32 ∷ 67 ∷ 82 ∷ 69 ∷ 65 ∷ 84 ∷ 69 ∷ []) ∷ []
+
+-- the identifier, the form, and those; or REFUSED and the number
+unfoldable pub answer_words : Result Granted Refusal → List (List ℕ)
+answer_words (Ok granted) = identifier_words granted.at ++ (space ∷ form_word granted.form ∷ row_words granted.row)
 answer_words (Err r) = refused_words r
 
 -- "one line per record, numbered from 1"
-unfoldable pub line_words : ℕ → Result OkRow Refusal → List (List ℕ)
+unfoldable pub line_words : ℕ → Result Granted Refusal → List (List ℕ)
 line_words number answer = decimal_of number ∷ space ∷ (answer_words answer ++ (newline ∷ []))
 
-unfoldable pub line_of : ℕ → Result OkRow Refusal → List ℕ
+unfoldable pub line_of : ℕ → Result Granted Refusal → List ℕ
 line_of number answer = joined (line_words number answer)
 
 -- the lines of records, numbered from a number on

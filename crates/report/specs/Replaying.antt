@@ -1,6 +1,8 @@
 -- Document 02, No. 7: the replay of a trace, whole, and as a state that goes on from record to record and from chunk to chunk.
-use Rattle.std.specs.Prelude.{ℕ, ◌+◌, ◌-◌, ◌*◌, ◌^◌, min, Bool, true, cond, ◌&&◌, List, [], ◌∷◌, ◌++◌, ltb, length, Option, None}
+use Rattle.std.specs.Prelude.{ℕ, ◌+◌, ◌-◌, ◌*◌, ◌^◌, min, Bool, true, cond, ◌&&◌, List, [], ◌∷◌, ◌++◌, ltb, length, Result, Option, Some, None}
 use Rattle.report.specs.declared.Stepped.{Stepped}
+use Rattle.refusal.specs.declared.Refusal.{Refusal}
+use Rattle.getkey.specs.declared.Granted.{Granted}
 use Rattle.trace.specs.Reading.{record_length}
 use Rattle.tally.specs.Totals.{tally_of}
 use Rattle.tally.specs.Merging.{merge, fits}
@@ -31,9 +33,12 @@ report_of table s = report_from table start s
 unfoldable pub counts : List ℕ → State → List ℕ → Bool
 counts table st s = ltb (st.next + 1) (2 ^ 64) && fits (after table st (s ∷ [])).tally
 
+abbrev pub stepped : ℕ → Result Granted Refusal → State → Stepped
+stepped number answer st = record { number = number; answer = answer; state = st }
+
 -- one record in, its number, its answer and the next state out; none where a count does not fit
 unfoldable pub step_of : List ℕ → State → List ℕ → Option Stepped
-step_of table st s = cond (counts table st s) (SomeLine st.next (answer_to table s) (after table st (s ∷ []))) None
+step_of table st s = cond (counts table st s) (Some (stepped st.next (answer_to table s) (after table st (s ∷ [])))) None
 
 -- the room that a line is sure to fit in
 abbrev pub line_room : ℕ

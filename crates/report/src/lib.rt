@@ -2,52 +2,43 @@
 // by value: from record to record (`step`), and from chunk to chunk of a trace of any length (`replay`).
 #![tactic(auto)]
 
-ghost use Rattle.std.specs.Prelude.{◌≡◌, [], ◌∷◌, ◌++◌, min, eqb, length};
+ghost use Rattle.std.specs.Prelude.{◌≡◌, min, length};
 ghost use Rattle.wire.specs.Parts.{onto};
 ghost use Rattle.records.specs.Writing.{output_of};
-ghost use Rattle.getkey.specs.Deciding.{answer_number};
 ghost use Rattle.trace.specs.Reading.{record_length};
-ghost use Rattle.line.specs.Text.{text_of, space, buffer, put_all};
-ghost use Rattle.words.specs.Words.{form_word, identifier_words};
+ghost use Rattle.line.specs.Text.{text_of, put_all};
 ghost use Rattle.report.specs.Records.{records_of, has_record, answered, clock_of};
-ghost use Rattle.report.specs.Lines.{answer_words, line_words, total_line, total_written};
+ghost use Rattle.report.specs.Lines.{answer_words, line_words, total_words, total_line, total_written};
 ghost use Rattle.report.specs.Replaying.{start, step_of, replay_of, progress_of};
 
-use getkey::{Answer, decide_by_verdict};
-use gkid::Gkid;
-use keys::Form;
-use line::{Line, put_number, put_text};
-use records::Written;
+use getkey::{Granted, decide_by_verdict};
+use gkid::FileTime;
+use line::{Lent, Line, Text};
 use refusal::Refusal;
-use tally::{Clock, Counted, Merged, Tally};
-use trace::RecordRead;
-use wire::Span;
-use words::{put_form, put_identifier, put_refused};
+use tally::{Counted, Tally};
+use trace::Recorded;
 
 // The room that a line is sure to fit in.
 pub const LINE: usize = 128;
 
 // Where a replay stands: the number of the next line, and the total so far. A host that replays a trace in pieces begins each at its own
 // number, with an empty total, and merges the totals.
-#[derive(Clone, Copy)]
+#[derive(Clone, Copy, Debug, PartialEq, Eq)]
 pub struct State {
     pub next: u64,
     pub tally: Tally,
 }
 
-// One record replayed; or a count would not fit in 64 bits.
-#[derive(Clone, Copy)]
-pub enum Stepped {
-    Line {
-        number: u64,
-        answer: Answer,
-        state: State,
-    },
-    Full,
+// One record replayed: its number, its answer and the next state.
+#[derive(Clone, Copy, Debug, PartialEq, Eq)]
+pub struct Stepped {
+    pub number: u64,
+    pub answer: Result<Granted, Refusal>,
+    pub state: State,
 }
 
 // Why a replay stopped: the chunk has no further record; less than `LINE` bytes of the output are left; a count would not fit in 64 bits.
-#[derive(Clone, Copy)]
+#[derive(Clone, Copy, Debug, PartialEq, Eq)]
 pub enum Stopped {
     Records,
     Room,
@@ -55,7 +46,7 @@ pub enum Stopped {
 }
 
 // What was replayed of a chunk: so many bytes of it were used, and so many of the output written.
-#[derive(Clone, Copy)]
+#[derive(Clone, Copy, Debug, PartialEq, Eq)]
 pub struct Progress {
     pub stopped: Stopped,
     pub used: usize,
@@ -75,70 +66,46 @@ impl State {
     }
 }
 
-// One record in, its number, its answer and the next state out.
-pub fn step(state: State, table: &[u8], s: &[u8]) -> Stepped
+// One record in, its number, its answer and the next state out; none if a count would not fit in 64 bits.
+pub fn step(state: State, table: &[u8], s: &[u8]) -> Option<Stepped>
     ensures { result ≡ step_of table.now state s.now }
 {
     let read = trace::read(s);
     let answer = answer_of(read, table);
     let counted = Counted {
-        accepted: is_accepted(answer),
+        accepted: answer.is_ok(),
         clock: clock_of(read),
     };
-    let tally = state.tally;
     let number = state.next;
-    if number == 0xffff_ffff_ffff_ffff {
-        return None;
-    }
-    match tally.merged(Tally::of(counted)) {
-        Some(tally) => SomeLine {
-            number,
-            answer,
-            state: State {
-                next: number + 1,
-                tally,
-            },
-        },
-        None => None,
-    }
+    let next = number.checked_add(1)?;
+    let tally = state.tally.merged(Tally::of(counted))?;
+    Some(Stepped {
+        number,
+        answer,
+        state: State { next, tally },
+    })
 }
 
 // 26, or the decision by verdict at the record's clock.
-fn answer_of(read: RecordRead, table: &[u8]) -> Answer
+fn answer_of(read: Result<Recorded, Refusal>, table: &[u8]) -> Result<Granted, Refusal>
     ensures { result ≡ answered table.now read }
 {
-    match read {
-        Ok(recorded) => {
-            let rights = recorded.rights;
-            let request = recorded.request;
-            let clock = recorded.clock;
-            decide_by_verdict(recorded.verdict, rights, request, clock, table)
-        }
-        Err(refusal) => Err(refusal),
-    }
+    let Recorded {
+        clock,
+        rights,
+        verdict,
+        request,
+    } = read?;
+    decide_by_verdict(verdict, rights, request, clock, table)
 }
 
 // The clock that counts, if the record is not 26.
-fn clock_of(read: RecordRead) -> Clock
+fn clock_of(read: Result<Recorded, Refusal>) -> Option<FileTime>
     ensures { result ≡ clock_of read }
 {
     match read {
-        Ok(recorded) => {
-            let clock = recorded.clock;
-            Some(clock)
-        }
+        Ok(recorded) => Some(recorded.clock),
         Err(_) => None,
-    }
-}
-
-// Accepted is number 0.
-fn is_accepted(answer: Answer) -> bool
-    ensures { result ≡ eqb (answer_number answer) 0 }
-{
-    match answer {
-        OkRow { .. } => true,
-        OkCreate { .. } => true,
-        Err(_) => false,
     }
 }
 
@@ -148,34 +115,30 @@ pub fn replay(out: &mut [u8], state: State, table: &[u8], chunk: &[u8], ends: bo
     ensures answer { result ≡ progress_of (length chunk.now) (replay_of table.now state (records_of ends chunk.now) (length out.old)) }
     ensures output { out.new ≡ onto (replay_of table.now state (records_of ends chunk.now) (length out.old)).text out.old }
 {
+    let mut text = Lent { bytes: out, len: 0 };
     let mut present = state;
     let mut left = chunk;
-    let mut written = 0;
     while has_record(left.len(), ends) {
-        if out.len() - written < LINE {
+        if text.bytes.len() - text.len < LINE {
             return Progress {
                 stopped: Stopped::Room,
                 used: chunk.len() - left.len(),
-                written,
+                written: text.len,
                 state: present,
             };
         }
         let size = record_size(left.len());
         match step(present, table, &left[..size]) {
-            SomeLine {
-                number,
-                answer,
-                state,
-            } => {
-                written = put_line(out, written, number, answer);
-                present = state;
+            Some(stepped) => {
+                put_line(&mut text, stepped.number, stepped.answer);
+                present = stepped.state;
                 left = &left[size..];
             }
             None => {
                 return Progress {
                     stopped: Stopped::Full,
                     used: chunk.len() - left.len(),
-                    written,
+                    written: text.len,
                     state: present,
                 };
             }
@@ -184,7 +147,7 @@ pub fn replay(out: &mut [u8], state: State, table: &[u8], chunk: &[u8], ends: bo
     Progress {
         stopped: Stopped::Records,
         used: chunk.len() - left.len(),
-        written,
+        written: text.len,
         state: present,
     }
 }
@@ -203,70 +166,71 @@ fn record_size(len: usize) -> usize
     if len < trace::LEN { len } else { trace::LEN }
 }
 
-// A line put behind the text in lent bytes.
-pub fn put_line(out: &mut [u8], len: usize, number: u64, answer: Answer) -> usize
-    ensures { buffer out.new result ≡ put_all (buffer out.old len) (line_words number answer) }
+// A line put behind the text.
+#[tactic(auto, unfolding(line::specs::Text::put_all, crate::specs::Lines::line_words))]
+pub fn put_line<T: Text>(out: &mut T, number: u64, answer: Result<Granted, Refusal>)
+    ensures put { T.buffer out.new ≡ put_all (T.buffer out.old) (line_words number answer) }
+    ensures lender { T.lender out.new ≡ T.lender out.old }
 {
-    let numbered = put_number(out, len, number);
-    let spaced = put_text(out, numbered, b" ");
-    let told = put_answer(out, spaced, answer);
-    put_text(out, told, b"\n")
+    out.number(number);
+    out.text(b" ");
+    put_answer(out, answer);
+    out.text(b"\n");
 }
 
-fn put_answer(out: &mut [u8], len: usize, answer: Answer) -> usize
-    ensures { buffer out.new result ≡ put_all (buffer out.old len) (answer_words answer) }
+#[tactic(auto, unfolding(line::specs::Text::put_all, words::specs::Words::identifier_words, crate::specs::Lines::answer_words, crate::specs::Lines::row_words))]
+fn put_answer<T: Text>(out: &mut T, answer: Result<Granted, Refusal>)
+    ensures put { T.buffer out.new ≡ put_all (T.buffer out.old) (answer_words answer) }
+    ensures lender { T.lender out.new ≡ T.lender out.old }
 {
-    match answer {
-        OkRow { at, form, row } => {
-            let granted = put_granted(out, len, at, form);
-            let word = put_text(out, granted, b" ROW ");
-            put_number(out, word, row as u64)
+    let granted = match answer {
+        Ok(granted) => granted,
+        Err(refusal) => return words::refused(out, refusal),
+    };
+    words::identifier(out, granted.at);
+    out.text(b" ");
+    words::form(out, granted.form);
+    match granted.row {
+        Some(row) => {
+            out.text(b" ROW ");
+            out.number(row as u64);
         }
-        OkCreate { at, form } => {
-            let granted = put_granted(out, len, at, form);
-            put_text(out, granted, b" CREATE")
-        }
-        Err(refusal) => put_refused(out, len, refusal),
+        None => out.text(b" CREATE"),
     }
-}
-
-// The identifier and the form.
-fn put_granted(out: &mut [u8], len: usize, at: Gkid, form: Form) -> usize
-    ensures { buffer out.new result ≡ put_all (buffer out.old len) (identifier_words at ++ (space ∷ form_word form ∷ [])) }
-{
-    let identified = put_identifier(out, len, at);
-    let spaced = put_text(out, identified, b" ");
-    put_form(out, spaced, form)
 }
 
 // The total's line.
 pub fn total_line(tally: Tally) -> Line
     ensures { text_of result ≡ total_line tally }
 {
-    Line::new()
-        .text(b"TOTAL ")
-        .number(tally.accepted)
-        .text(b" ")
-        .number(tally.refused)
-        .text(b" ")
-        .number(tally.earlier)
-        .text(b"\n")
+    let mut line = Line::new();
+    put_counts(&mut line, tally);
+    line
 }
 
-// The total's line put at the start of lent bytes: 13 where it does not fit.
-pub fn put_total(out: &mut [u8], tally: Tally) -> Written
+#[tactic(auto, unfolding(line::specs::Text::put_all, crate::specs::Lines::total_words))]
+fn put_counts<T: Text>(out: &mut T, tally: Tally)
+    ensures put { T.buffer out.new ≡ put_all (T.buffer out.old) (total_words tally) }
+    ensures lender { T.lender out.new ≡ T.lender out.old }
+{
+    out.text(b"TOTAL ");
+    out.number(tally.accepted);
+    out.text(b" ");
+    out.number(tally.refused);
+    out.text(b" ");
+    out.number(tally.earlier);
+    out.text(b"\n");
+}
+
+// The total's line put at the start of lent bytes: 13 where it does not fit. The line is made in place, since one that another function
+// hands out is copied.
+pub fn put_total(out: &mut [u8], tally: Tally) -> Result<usize, Refusal>
     ensures answer { result ≡ total_written tally (length out.old) }
     ensures output { out.new ≡ output_of result (total_line tally) out.old }
 {
-    let line = total_line(tally);
-    let bytes = line.bytes;
-    let text = wire::part(
-        &bytes,
-        Span {
-            at: 0,
-            len: line.len,
-        },
-    );
+    let mut line = Line::new();
+    put_counts(&mut line, tally);
+    let text = line.as_bytes();
     let len = text.len();
     if out.len() < len {
         return Err(Refusal::NoRoom);

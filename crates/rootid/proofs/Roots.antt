@@ -43,10 +43,10 @@ same_root_lem a b =
     (λ p q i. record { high = eqb-true a.high b.high p i; low = eqb-true a.low b.low q i })
     (λ p q. absurd (false≢true q))
 
--- and what a derived `==` asks, half by half
-pub same_halves : (a b : RootId) → eqb a.low b.low && eqb a.high b.high ≡ same_root a b
+-- which is what a derived `==` asks
+pub same_halves : (a b : RootId) → same_root a b ≡ eqb a.low b.low && eqb a.high b.high
 unfolding same_root
-same_halves a b = and_comm (eqb a.low b.low) (eqb a.high b.high)
+same_halves a b = and_comm (eqb a.high b.high) (eqb a.low b.low)
 
 pub root-same : (a : RootId) → same_root a a ≡ true
 unfolding same_root

@@ -15,6 +15,7 @@ pub struct RootId {
 
 impl RootId {
     // The identifier in the 16 bytes from `at` on.
+    #[tactic(auto, unfolding(crate::specs::Root::root_at))]
     pub fn at(s: &[u8], at: usize) -> RootId
         ensures { result ≡ root_at s.now at }
     {
@@ -25,6 +26,7 @@ impl RootId {
         }
     }
 
+    #[tactic(auto, using(crate::proofs::Roots::same_halves))]
     pub fn is(self, other: RootId) -> bool
         ensures { result ≡ same_root self other }
     {

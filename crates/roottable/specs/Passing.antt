@@ -1,14 +1,13 @@
 -- What the code's one pass over the rows keeps. Only the contracts of private functions cite this, and nobody has to believe it: the law
 -- `best_row` (proofs/Choice) says that it comes to `chosen_row`.
-use Rattle.std.specs.Prelude.{ℕ, Bool, cond, ltb}
+use Rattle.std.specs.Prelude.{ℕ, Bool, cond, ltb, Option, None, Some}
 use Rattle.roottable.specs.declared.Best.{Best}
-use Rattle.roottable.specs.declared.Best.TheVariants as best
 
 -- a row is better than those before it where its rank is higher
-unfoldable pub better : Best → ℕ → ℕ → Best
-better best.None k height = best.Row k height
-better (best.Row j high) k height = cond (ltb high height) (best.Row k height) (best.Row j high)
+unfoldable pub better : Option Best → ℕ → ℕ → Option Best
+better None k height = Some (record { row = k; rank = height })
+better (Some b) k height = Some (cond (ltb b.rank height) (record { row = k; rank = height }) b)
 
 -- a row that does not suit changes nothing
-unfoldable pub step_of : Best → Bool → ℕ → ℕ → Best
+unfoldable pub step_of : Option Best → Bool → ℕ → ℕ → Option Best
 step_of b suits k height = cond suits (better b k height) b

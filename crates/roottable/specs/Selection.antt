@@ -1,5 +1,6 @@
 -- Document 01, "The GetKey decision", root row: 20; else of the suitable rows the first of the highest rank.
 use Rattle.std.specs.Prelude.{ℕ, zero, suc, Bool, true, false, cond, not, ◌&&◌, ◌||◌, List, leb, length, Result, Ok, Err, Option, None, Some}
+use Rattle.std.specs.Option.{option_or}
 use Rattle.refusal.specs.declared.Refusal.{Refusal}
 use Rattle.lemmas.specs.Counting.{every}
 use Rattle.refusal.specs.declared.Refusal.TheVariants.{TableLength}
@@ -7,25 +8,20 @@ use Rattle.refusal.specs.Number.{number_of}
 use Rattle.roottable.specs.declared.Wanted.{Wanted}
 use Rattle.roottable.specs.Rows.{table_wrong, row_at, row_count, suitable, rank}
 
-unfoldable pub or_else : Result (Option ℕ) Refusal → Result (Option ℕ) Refusal → Result (Option ℕ) Refusal
-or_else (Ok None) other = other
-or_else (Ok (Some k)) other = Ok (Some k)
-or_else (Err r) other = Err r
-
 -- the first number below n of which the test holds
-unfoldable pub first_where : ℕ → (ℕ → Bool) → Result (Option ℕ) Refusal
-first_where zero test = Ok None
-first_where (suc n) test = or_else (first_where n test) (cond (test n) (Ok (Some n)) (Ok None))
+unfoldable pub first_where : ℕ → (ℕ → Bool) → Option ℕ
+first_where zero test = None
+first_where (suc n) test = option_or (first_where n test) (cond (test n) (Some n) None)
 
 -- of n places, the first suitable one of which no suitable one is higher
-unfoldable pub first_highest : ℕ → (ℕ → Bool) → (ℕ → ℕ) → Result (Option ℕ) Refusal
+unfoldable pub first_highest : ℕ → (ℕ → Bool) → (ℕ → ℕ) → Option ℕ
 first_highest n suits height = first_where n (λ k. suits k && every n (λ j. not (suits j) || leb (height j) (height k)))
 
 -- 20, or the row of the table that is wanted
 unfoldable pub chosen_row : Wanted → List ℕ → Result (Option ℕ) Refusal
 chosen_row wanted table =
     cond (table_wrong (length table)) (Err TableLength)
-    (first_highest (row_count table) (λ k. suitable wanted (row_at table k)) (λ k. rank wanted (row_at table k)))
+    (Ok (first_highest (row_count table) (λ k. suitable wanted (row_at table k)) (λ k. rank wanted (row_at table k))))
 
 -- the paper's number, whether a row is found, and that row: none is number 0, not found, with zero beside it, since what comes of it
 -- is the request's to say; or the refusal's number and zero

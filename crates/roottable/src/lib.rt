@@ -16,7 +16,7 @@ pub const ROW_SIZE: usize = 32;
 pub const MOST_ROWS: usize = 64;
 
 // A row of the root table.
-#[derive(Clone, Copy)]
+#[derive(Clone, Copy, Debug, PartialEq, Eq)]
 struct Row {
     id: RootId,
     starts: FileTime,
@@ -24,26 +24,18 @@ struct Row {
 }
 
 // Which rows suit a request: those of a root; any, by use-start; those in use at a time, by create time.
-#[derive(Clone, Copy)]
+#[derive(Clone, Copy, Debug, PartialEq, Eq)]
 pub enum Wanted {
     Root(RootId),
     Newest,
     InUse(FileTime),
 }
 
-// The best of the rows looked at, with its rank, or none.
-#[derive(Clone, Copy)]
-enum Best {
-    None,
-    Row { row: usize, rank: u64 },
-}
-
-// A row chosen by its place, or none; or 20.
-#[derive(Clone, Copy)]
-pub enum Found {
-    None,
-    Row(usize),
-    Refused(Refusal),
+// The best of the rows looked at: its place, and its rank.
+#[derive(Clone, Copy, Debug, PartialEq, Eq)]
+struct Best {
+    row: usize,
+    rank: u64,
 }
 
 // 20: no multiple of 32, or over 64 rows.
@@ -53,8 +45,8 @@ fn is_table_wrong(len: usize) -> bool
     len % ROW_SIZE != 0 || len / ROW_SIZE > MOST_ROWS
 }
 
-// The row that is wanted, in one pass over the table; 20 before it.
-pub fn choose(wanted: Wanted, table: &[u8]) -> Found
+// The row that is wanted, by its place, or none, in one pass over the table; 20 before it.
+pub fn choose(wanted: Wanted, table: &[u8]) -> Result<Option<usize>, Refusal>
     ensures answer { result ≡ chosen_row wanted table.now }
     ensures number { found_number result ≡ table_number table.now }
     ensures row { found_any result ≡ true → found_row result < row_count table.now }
@@ -62,42 +54,49 @@ pub fn choose(wanted: Wanted, table: &[u8]) -> Found
     if is_table_wrong(table.len()) {
         return Err(Refusal::TableLength);
     }
-    let rows = table.len() / ROW_SIZE;
-    let mut best = Best::None;
-    let mut k = 0;
-    while k < rows {
-        best = step(best, wanted, table, k);
-        k += 1;
+    let mut best = None;
+    for (k, bytes) in table.chunks_exact(ROW_SIZE).enumerate() {
+        best = step(best, wanted, Row::read(bytes), k);
     }
-    match best {
-        Best::None => Ok(None),
-        Best::Row { row, rank: _ } => Ok(Some(row)),
-    }
+    Ok(best.map(|best| best.row))
 }
 
 // One row more.
-fn step(best: Best, wanted: Wanted, table: &[u8], k: usize) -> Best
-    requires { k < row_count table.now }
-    ensures { result ≡ step_of best (suitable wanted (row_at table.now k)) k (rank wanted (row_at table.now k)) }
+fn step(best: Option<Best>, wanted: Wanted, row: Row, k: usize) -> Option<Best>
+    ensures { result ≡ step_of best (suitable wanted row) k (rank wanted row) }
 {
-    let row = row_at(table, k);
     if wanted.suits(row) {
-        return best.or_better(k, wanted.rank_of(row));
+        return better(
+            best,
+            Best {
+                row: k,
+                rank: wanted.rank_of(row),
+            },
+        );
     }
     best
 }
 
-// The row at a place, counted from 0.
-fn row_at(table: &[u8], row: usize) -> Row
-    requires { row < row_count table.now }
-    ensures { result ≡ row_at table.now row }
+// A row that counts: it is better where its rank is higher than that of the best before it.
+fn better(best: Option<Best>, next: Best) -> Option<Best>
+    ensures { result ≡ better best next.row next.rank }
 {
-    let at = ROW_SIZE * row;
-    let bytes = &table[at..at + 32];
-    Row {
-        id: RootId::at(bytes, 0),
-        starts: FileTime(wire::be64_at(bytes, 16)),
-        created: FileTime(wire::be64_at(bytes, 24)),
+    match best {
+        Some(best) if next.rank <= best.rank => Some(best),
+        _ => Some(next),
+    }
+}
+
+impl Row {
+    // The row in its own 32 bytes.
+    fn read(bytes: &[u8]) -> Row
+        ensures { result ≡ row_at bytes.now 0 }
+    {
+        Row {
+            id: RootId::at(bytes, 0),
+            starts: FileTime(wire::be64_at(bytes, 16)),
+            created: FileTime(wire::be64_at(bytes, 24)),
+        }
     }
 }
 
@@ -106,11 +105,10 @@ impl Wanted {
     fn suits(self, row: Row) -> bool
         ensures { result ≡ suitable self row }
     {
-        let id = row.id;
         match self {
-            Wanted::Root(wanted) => id.is(wanted),
+            Wanted::Root(wanted) => row.id.is(wanted),
             Wanted::Newest => true,
-            Wanted::InUse(start) => row.starts.0 <= start.0,
+            Wanted::InUse(start) => row.starts <= start,
         }
     }
 
@@ -122,22 +120,6 @@ impl Wanted {
             Wanted::Root(_) => 0,
             Wanted::Newest => row.starts.0,
             Wanted::InUse(_) => row.created.0,
-        }
-    }
-}
-
-impl Best {
-    // A row that counts: it is better where its rank is higher than that of the best before it.
-    fn or_better(self, row: usize, rank: u64) -> Best
-        ensures { result ≡ better self row rank }
-    {
-        let Best::Row { row: _, rank: high } = self else {
-            return Best::Row { row, rank };
-        };
-        if high < rank {
-            Best::Row { row, rank }
-        } else {
-            self
         }
     }
 }

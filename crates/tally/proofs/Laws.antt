@@ -1,6 +1,6 @@
 -- Laws of totals: a total is that of its two parts merged; merging is associative, with the total of no record as its unit; and accepted
 -- and refused are all.
-use Rattle.lemmas.proofs.Basics.{ℕ, ◌+◌, ◌-◌, ◌^◌, ◌≤◌, ◌<◌, arith, add-zero, Bool, true, false, not, ◌&&◌, List, [], ◌∷◌, ◌++◌, append-nil, ◌≡◌, refl, sym, ap, ◌∙◌, ltb, leb, length, ltb-true, lt-ltb, le-ltb, leb-true, leb-false}
+use Rattle.lemmas.proofs.Basics.{ℕ, ◌+◌, ◌^◌, ◌<◌, arith, add-zero, Bool, true, false, not, List, [], ◌∷◌, ◌++◌, append-nil, ◌≡◌, refl, ap, ◌∙◌, cond, length, ltb-true, lt-ltb}
 use Rattle.std.specs.Prelude.{Option, Some, None}
 use Rattle.gkid.specs.declared.FileTime.{FileTime}
 use Rattle.tally.specs.declared.Ends.{Ends}
@@ -9,7 +9,7 @@ use Rattle.lemmas.proofs.Cases.{by_cases, both_true}
 use Rattle.tally.specs.declared.Counted.{Counted}
 use Rattle.tally.specs.declared.Tally.{Tally}
 use Rattle.tally.specs.Totals.{accepted_in, refused_in, with_clock, clocks_in, earlier_behind, earlier_in, last_behind, ends_of, tally_of}
-use Rattle.tally.specs.Merging.{seam, joined_ends, merge, fits}
+use Rattle.tally.specs.Merging.{seam, joined_ends, merge, fits, merged_of}
 
 -- Accepted and refused are all.
 pub all_counted : (cs : List Counted) → accepted_in cs + refused_in cs ≡ length cs
@@ -60,8 +60,8 @@ earlier-append (a ∷ ks) (b ∷ bs) = omega (arith, earlier_behind_lem a ks (b 
 ends_append : (ks bs : List ℕ) → ends_of (ks ++ bs) ≡ joined_ends (ends_of ks) (ends_of bs)
 unfolding ends_of joined_ends last_behind
 ends_append [] bs = refl
-ends_append (a ∷ ks) [] = ap (λ t. SomeEnds (record { 0 = a }) (record { 0 = last_behind a t })) (append-nil ks)
-ends_append (a ∷ ks) (b ∷ bs) = ap (λ n. SomeEnds (record { 0 = a }) (record { 0 = n })) (last_behind_lem a ks (b ∷ bs))
+ends_append (a ∷ ks) [] = ap (λ t. Some (record { first = record { 0 = a }; last = record { 0 = last_behind a t } })) (append-nil ks)
+ends_append (a ∷ ks) (b ∷ bs) = ap (λ n. Some (record { first = record { 0 = a }; last = record { 0 = n } })) (last_behind_lem a ks (b ∷ bs))
 
 -- The total of a trace is the totals of its two parts, merged.
 pub tally_append : (xs ys : List Counted) → tally_of (xs ++ ys) ≡ merge (tally_of xs) (tally_of ys)
@@ -80,16 +80,16 @@ tally_append xs ys =
 seams : (a b c : Option Ends) → seam a b + seam (joined_ends a b) c ≡ seam b c + seam a (joined_ends b c)
 unfolding seam joined_ends
 seams None b c = omega arith
-seams (SomeEnds p q) None c = omega arith
-seams (SomeEnds p q) (SomeEnds r s) None = omega arith
-seams (SomeEnds p q) (SomeEnds r s) (SomeEnds t u) = omega arith
+seams (Some p) None c = omega arith
+seams (Some p) (Some q) None = omega arith
+seams (Some p) (Some q) (Some r) = omega arith
 
 ends_assoc : (a b c : Option Ends) → joined_ends (joined_ends a b) c ≡ joined_ends a (joined_ends b c)
 unfolding joined_ends
 ends_assoc None b c = refl
-ends_assoc (SomeEnds p q) None c = refl
-ends_assoc (SomeEnds p q) (SomeEnds r s) None = refl
-ends_assoc (SomeEnds p q) (SomeEnds r s) (SomeEnds t u) = refl
+ends_assoc (Some p) None c = refl
+ends_assoc (Some p) (Some q) None = refl
+ends_assoc (Some p) (Some q) (Some r) = refl
 
 pub merge-assoc : (x y z : Tally) → merge (merge x y) z ≡ merge x (merge y z)
 unfolding merge
@@ -112,30 +112,17 @@ merge_none x =
   where
     seam-none : (a : Option Ends) → seam a None ≡ 0
     seam-none None = refl
-    seam-none (SomeEnds p q) = refl
+    seam-none (Some p) = refl
 
     ends_none : (a : Option Ends) → joined_ends a None ≡ a
     ends_none None = refl
-    ends_none (SomeEnds p q) = refl
+    ends_none (Some p) = refl
 
 -- One clock is not earlier than any before it.
 pub one_earlier : (c : Option FileTime) → earlier_in (with_clock c []) ≡ 0
 unfolding earlier_in earlier_behind with_clock
 one_earlier None = refl
 one_earlier (Some time) = refl
-
--- A sum of 64 bits, by what is left above its first numbers.
-pub sum_fits : (a b c : ℕ) → a < 2 ^ 64 → b ≤ 18446744073709551615 - a → leb c (18446744073709551615 - a - b) ≡ ltb (a + b + c) (2 ^ 64)
-sum_fits a b c h k =
-    by_cases (λ t. t ≡ ltb (a + b + c) (2 ^ 64)) (leb c (18446744073709551615 - a - b))
-    (λ q. sym (lt-ltb (a + b + c) (2 ^ 64) (omega (arith, leb-true c (18446744073709551615 - a - b) q))))
-    (λ q. sym (le-ltb (a + b + c) (2 ^ 64) (omega (arith, leb-false c (18446744073709551615 - a - b) q))))
-
--- The three tests of a merge.
-pub sums_fit : (x y : Tally) {m : ℕ} {a r e : Bool} → m ≡ seam x.clocks y.clocks → a ≡ ltb (x.accepted + y.accepted + 0) (2 ^ 64)
-    → r ≡ ltb (x.refused + y.refused + 0) (2 ^ 64) → e ≡ ltb (x.earlier + y.earlier + m) (2 ^ 64) → a && (r && e) ≡ fits (merge x y)
-unfolding fits merge
-sums_fit x y told accepted refused earlier = rw (accepted, refused, earlier, told, add-zero, add-zero)
 
 -- What fits, count by count.
 pub fits_told : (x : Tally) → fits x ≡ true → (x.accepted < 2 ^ 64) × ((x.refused < 2 ^ 64) × (x.earlier < 2 ^ 64))
@@ -144,3 +131,13 @@ fits_told x e =
     let first = both_true _ _ e in
     let second = both_true _ _ first.1 in
     (ltb-true _ _ first.0, (ltb-true _ _ second.0, ltb-true _ _ second.1))
+
+-- A total whose counts do not all fit is none.
+pub full : (x y : Tally) → ((merge x y).accepted < 2 ^ 64 → (merge x y).refused < 2 ^ 64 → (merge x y).earlier < 2 ^ 64 → ⊥) → None ≡ merged_of x y
+unfolding merged_of
+full x y not = by_cases (λ t. None ≡ cond t (Some (merge x y)) None) (fits (merge x y)) (λ e. let h = fits_told _ e in absurd (not h.0 h.1.0 h.1.1)) (λ _. refl)
+
+-- And one whose counts do is the total.
+pub fits_all : (x y : Tally) → (merge x y).accepted < 2 ^ 64 → (merge x y).refused < 2 ^ 64 → (merge x y).earlier < 2 ^ 64 → Some (merge x y) ≡ merged_of x y
+unfolding merged_of fits
+fits_all x y a r e = rw (lt-ltb _ _ a, lt-ltb _ _ r, lt-ltb _ _ e)

@@ -7,14 +7,14 @@ use Rattle.tally.specs.declared.Tally.{Tally}
 -- one time more, where the second begins earlier than the first ends
 unfoldable pub seam : Option Ends → Option Ends → ℕ
 seam None second = 0
-seam (SomeEnds a b) None = 0
-seam (SomeEnds a b) (SomeEnds c d) = bit (ltb c.0 b.0)
+seam (Some a) None = 0
+seam (Some a) (Some b) = bit (ltb b.first.0 a.last.0)
 
 -- from the first's first clock to the second's last, where they have clocks
 unfoldable pub joined_ends : Option Ends → Option Ends → Option Ends
 joined_ends None second = second
-joined_ends (SomeEnds a b) None = SomeEnds a b
-joined_ends (SomeEnds a b) (SomeEnds c d) = SomeEnds a d
+joined_ends (Some a) None = Some a
+joined_ends (Some a) (Some b) = Some (record { first = a.first; last = b.last })
 
 unfoldable pub merge : Tally → Tally → Tally
 merge x y =

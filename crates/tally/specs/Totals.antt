@@ -41,7 +41,7 @@ last_behind before (clock ∷ clocks) = last_behind clock clocks
 
 unfoldable pub ends_of : List ℕ → Option Ends
 ends_of [] = None
-ends_of (clock ∷ clocks) = SomeEnds (record { 0 = clock }) (record { 0 = last_behind clock clocks })
+ends_of (clock ∷ clocks) = Some (record { first = record { 0 = clock }; last = record { 0 = last_behind clock clocks } })
 
 -- the total; the clocks at its ends stand by for what comes before and after
 unfoldable pub tally_of : List Counted → Tally

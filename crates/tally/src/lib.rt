@@ -2,47 +2,33 @@
 // of traces that follow each other are merged.
 #![tactic(auto)]
 
-ghost use Rattle.std.specs.Prelude.{◌≡◌, [], ◌∷◌, ◌+◌, ◌^◌, ltb};
-ghost use Rattle.tally.specs.Totals.{with_clock, ends_of, tally_of};
+ghost use Rattle.std.specs.Prelude.{◌≡◌, [], ◌∷◌};
+ghost use Rattle.tally.specs.Totals.{tally_of};
 ghost use Rattle.tally.specs.Merging.{seam, joined_ends, merged_of};
 
 use gkid::FileTime;
 
-// The clock of a record; a malformed one has none that counts.
-#[derive(Clone, Copy)]
-pub enum Clock {
-    None,
-    At(FileTime),
-}
-
-// What is counted of one record.
-#[derive(Clone, Copy)]
+// What is counted of one record: a malformed one has no clock that counts.
+#[derive(Clone, Copy, Debug, PartialEq, Eq)]
 pub struct Counted {
     pub accepted: bool,
-    pub clock: Clock,
+    pub clock: Option<FileTime>,
 }
 
-// The first and the last clock that count, or none.
-#[derive(Clone, Copy)]
-pub enum Clocks {
-    None,
-    Between { first: FileTime, last: FileTime },
+// The first and the last clock that count.
+#[derive(Clone, Copy, Debug, PartialEq, Eq)]
+pub struct Ends {
+    pub first: FileTime,
+    pub last: FileTime,
 }
 
-// A total.
-#[derive(Clone, Copy)]
+// A total; the one of no record has no clocks.
+#[derive(Clone, Copy, Debug, PartialEq, Eq, Default)]
 pub struct Tally {
     pub accepted: u64,
     pub refused: u64,
     pub earlier: u64,
-    pub clocks: Clocks,
-}
-
-// Two totals merged; or a count of them does not fit in 64 bits.
-#[derive(Clone, Copy)]
-pub enum Merged {
-    Total(Tally),
-    Full,
+    pub clocks: Option<Ends>,
 }
 
 impl Tally {
@@ -50,104 +36,57 @@ impl Tally {
     pub fn new() -> Tally
         ensures { result ≡ tally_of [] }
     {
-        Tally {
-            accepted: 0,
-            refused: 0,
-            earlier: 0,
-            clocks: None,
-        }
+        Tally::default()
     }
 
     // The total of one record.
     pub fn of(counted: Counted) -> Tally
         ensures { result ≡ tally_of (counted ∷ []) }
     {
-        let clock = counted.clock;
-        let clocks = ends_of(clock);
-        if counted.accepted {
-            return Tally {
-                accepted: 1,
-                refused: 0,
-                earlier: 0,
-                clocks,
-            };
-        }
         Tally {
-            accepted: 0,
-            refused: 1,
+            accepted: u64::from(counted.accepted),
+            refused: u64::from(!counted.accepted),
             earlier: 0,
-            clocks,
+            clocks: counted.clock.map(|time| Ends {
+                first: time,
+                last: time,
+            }),
         }
     }
 
-    // The total of a trace and of the one that follows it, as that of both.
-    pub fn merged(self, next: Tally) -> Merged
+    // The total of a trace and of the one that follows it, as that of both; none if a count of it does not fit in 64 bits.
+    pub fn merged(self, next: Tally) -> Option<Tally>
         ensures { result ≡ merged_of self next }
     {
-        let before = self.clocks;
-        let after = next.clocks;
-        let more = seam_of(before, after);
-        if fit(self.accepted, next.accepted, 0)
-            & (fit(self.refused, next.refused, 0) & fit(self.earlier, next.earlier, more))
-        {
-            return Some(Tally {
-                accepted: self.accepted + next.accepted,
-                refused: self.refused + next.refused,
-                earlier: self.earlier + next.earlier + more,
-                clocks: join(before, after),
-            });
-        }
-        None
-    }
-}
-
-// Whether a sum is a number of 64 bits.
-fn fit(a: u64, b: u64, c: u64) -> bool
-    ensures { result ≡ ltb (a + b + c) (2 ^ 64) }
-{
-    let left = 0xffff_ffff_ffff_ffff - a;
-    if b <= left {
-        return c <= left - b;
-    }
-    false
-}
-
-// The clock of one record, as the first and the last.
-fn ends_of(clock: Clock) -> Clocks
-    ensures { result ≡ ends_of (with_clock clock []) }
-{
-    match clock {
-        None => None,
-        Some(time) => SomeEnds {
-            first: time,
-            last: time,
-        },
+        let more = seam_of(self.clocks, next.clocks);
+        Some(Tally {
+            accepted: self.accepted.checked_add(next.accepted)?,
+            refused: self.refused.checked_add(next.refused)?,
+            earlier: self.earlier.checked_add(next.earlier)?.checked_add(more)?,
+            clocks: join(self.clocks, next.clocks),
+        })
     }
 }
 
 // 1 where the second begins earlier than the first ends.
-fn seam_of(before: Clocks, after: Clocks) -> u64
+fn seam_of(before: Option<Ends>, after: Option<Ends>) -> u64
     ensures { result ≡ seam before after }
 {
-    if let SomeEnds { last, .. } = before {
-        if let SomeEnds { first, .. } = after {
-            if first.0 < last.0 {
-                return 1;
-            }
-        }
+    match (before, after) {
+        (Some(before), Some(after)) => u64::from(after.first < before.last),
+        _ => 0,
     }
-    0
 }
 
 // From the first's first clock to the second's last, where they have clocks.
-fn join(before: Clocks, after: Clocks) -> Clocks
+fn join(before: Option<Ends>, after: Option<Ends>) -> Option<Ends>
     ensures { result ≡ joined_ends before after }
 {
-    let SomeEnds { first, .. } = before else {
-        return after;
-    };
-    let SomeEnds { last, .. } = after else {
-        return before;
-    };
-    SomeEnds { first, last }
+    match (before, after) {
+        (Some(before), Some(after)) => Some(Ends {
+            first: before.first,
+            last: after.last,
+        }),
+        _ => before.or(after),
+    }
 }

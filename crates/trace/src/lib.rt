@@ -3,13 +3,12 @@
 
 ghost use Rattle.std.specs.Prelude.{◌≡◌, not, ◌&&◌, ◌≤◌, eqb, length};
 ghost use Rattle.refusal.specs.Chain.{first_of};
-ghost use Rattle.trace.specs.Layout.{root_field, twos_complement};
-ghost use Rattle.trace.specs.Reading.{record_length, record_checks, rights_of, root_of, shown, record_of};
+ghost use Rattle.trace.specs.Reading.{record_length, record_checks, rights_of, shown, record_of};
 
 use getkey::Rights;
 use gkid::FileTime;
-use refusal::{Outcome, Refusal};
-use request::{Request, Root};
+use refusal::Refusal;
+use request::Request;
 use rootid::RootId;
 use wire::{be32_at, be64_at};
 
@@ -17,7 +16,7 @@ use wire::{be32_at, be64_at};
 pub const LEN: usize = 37;
 
 // A recorded request: when it was made, with which rights and verdict, and what it asked.
-#[derive(Clone, Copy)]
+#[derive(Clone, Copy, Debug, PartialEq, Eq)]
 pub struct Recorded {
     pub clock: FileTime,
     pub rights: Rights,
@@ -25,29 +24,17 @@ pub struct Recorded {
     pub request: Request,
 }
 
-#[derive(Clone, Copy)]
-pub enum RecordRead {
-    Accepted(Recorded),
-    Refused(Refusal),
-}
-
 // The record at the start of s: 26 where s has fewer than 37 bytes, a spare bit is set, rights are 3, or bits of the identifier are
 // set while no root is given.
-pub fn read(s: &[u8]) -> RecordRead
+pub fn read(s: &[u8]) -> Result<Recorded, Refusal>
     ensures { result ≡ record_of s.now }
 {
-    match judge(s) {
-        Ok(()) => {
-            return Ok(shown(s));
-        }
-        Err(refusal) => {
-            return Err(refusal);
-        }
-    }
+    judge(s)?;
+    Ok(shown(s))
 }
 
 // The checks, all of them 26. Byte 8 has root given 1 bit, rights 2, verdict 1, spare 4; the identifier has the 16 bytes from 21 on.
-fn judge(s: &[u8]) -> Outcome
+fn judge(s: &[u8]) -> Result<(), Refusal>
     ensures { result ≡ first_of (record_checks s.now) }
 {
     if s.len() < LEN {
@@ -84,10 +71,10 @@ fn shown(s: &[u8]) -> Recorded
         rights: rights_of(flags / 32 % 4),
         verdict: flags / 16 % 2 == 1,
         request: Request {
-            root: root_in(s, flags / 128),
-            l0: index_of(be32_at(s, 9)),
-            l1: index_of(be32_at(s, 13)),
-            l2: index_of(be32_at(s, 17)),
+            root: (flags / 128 != 0).then(|| RootId::at(s, 21)),
+            l0: be32_at(s, 9).cast_signed(),
+            l1: be32_at(s, 13).cast_signed(),
+            l2: be32_at(s, 17).cast_signed(),
         },
     }
 }
@@ -96,32 +83,9 @@ fn shown(s: &[u8]) -> Recorded
 fn rights_of(bits: u8) -> Rights
     ensures { result ≡ rights_of bits }
 {
-    if bits == 1 {
-        return Rights::Public;
+    match bits {
+        1 => Rights::Public,
+        2 => Rights::Seed,
+        _ => Rights::None,
     }
-    if bits == 2 {
-        return Rights::Seed;
-    }
-    Rights::None
-}
-
-// The identifier, where a root is given.
-fn root_in(s: &[u8], given: u8) -> Root
-    requires { record_length ≤ length s.now }
-    ensures { result ≡ root_of given (root_field s.now) }
-{
-    if given == 0 {
-        return None;
-    }
-    Some(RootId::at(s, 21))
-}
-
-// 32 bits in two's complement: from 2 ^ 31 on, less 2 ^ 32.
-fn index_of(x: u32) -> i32
-    ensures { result ≡ twos_complement 32 x }
-{
-    if x < 0x8000_0000 {
-        return x as i32;
-    }
-    -1 - ((0xffff_ffff - x) as i32)
 }

@@ -130,8 +130,8 @@ low_first (suc w) zero x =
     rw (low_first w 1 x, whole)
 low_first (suc w) (suc i) x = rw (low_first w (suc (suc i)) x, div-div-eq-div-mul x (256 ^ suc i) 256, pow-suc 256 (suc i))
 
-pub le_stored : (w x : ℕ) → bytes_low_first 0 w x ≡ le_bytes w x
-le_stored w x = low_first w 0 x ∙ ap (le_bytes w) (omega arith)
+pub le_stored : (w x : ℕ) → le_bytes w x ≡ bytes_low_first 0 w x
+le_stored w x = ap (le_bytes w) (omega arith) ∙ sym (low_first w 0 x)
 
 -- Most significant byte first: one byte more, and a number that lies inside, read and stored, gives the part.
 pub be_more : (w : ℕ) (s : List ℕ) (at : ℕ) → at + suc w ≤ length s → be_at (suc w) s at ≡ 256 * be_at w s at + get_or s (at + w) 0

@@ -1,10 +1,6 @@
 -- Laws of parts: those that lie inside, those that do not, parts of what was put together, and parts that follow each other.
-use Rattle.lemmas.proofs.Basics.{ℕ, zero, suc, ◌+◌, ◌-◌, ◌≤◌, ◌<◌, arith, add-sub_cancel_left, cond, List, [], ◌∷◌, ◌++◌, append_assoc, inl, inr, ◌≡◌, refl, sym, ap, ◌∙◌, leb, length, get_or, take, drop, length-append, length-drop, drop_of_length-le, length-take-le, take_at, take_all, take-add, take-length, take-append-le, drop_at, drop-drop, drop-append-le, drop-append_seam, le-leb, lt-leb, leb-true, leb-false}
+use Rattle.lemmas.proofs.Basics.{ℕ, zero, suc, ◌+◌, ◌-◌, ◌≤◌, ◌<◌, arith, add-sub_cancel_left, cond, List, [], ◌∷◌, ◌++◌, append_assoc, ◌≡◌, refl, sym, ap, ◌∙◌, leb, length, get_or, take, drop, length-append, length-drop, length-take-le, take_at, take_all, take-add, take-length, take-append-le, drop_at, drop-drop, drop-append-le, drop-append_seam, le-leb, lt-leb, leb-true, leb-false}
 use Rattle.lemmas.proofs.Cases.{by_cases, leb-same}
-use Rattle.std.specs.List.{PartBy}
-use Rattle.std.specs.Option.{unwrap_or}
-use Rattle.std.proofs.Common.{Option, None, Some}
-use denote.Bor.{Bor}
 use Rattle.wire.specs.declared.Span.{Span}
 use Rattle.wire.specs.Numbers.{le_of}
 use Rattle.wire.specs.Parts.{part_of, start_of, joined, le_at}
@@ -99,12 +95,6 @@ part_whole s = part_in s 0 (length s) (omega arith) ∙ take-length s
 pub rest_whole : (s : List ℕ) (at : ℕ) → take (length s - at) (drop at s) ≡ drop at s
 rest_whole s at = let long : length (drop at s) ≤ length s - at = rw length-drop (omega arith) in
     take_all (length s - at) (drop at s) long
-
--- What the toolchain's `get` hands out from a place on, or else nothing, is all that is left.
-pub rest_or_none : (s : List ℕ) (at : ℕ) (r : Option (Bor (List ℕ))) (d : Bor (List ℕ)) → d.now ≡ [] → PartBy (λ (x : Bor (List ℕ)). x.now) s at (length s) r
-    → (unwrap_or r d).now ≡ drop at s
-rest_or_none s at (Some x) d none got = got.0.2 ∙ rest_whole s at
-rest_or_none s at None d none got = none ∙ sym (drop_of_length-le s {i = at} (elim got.0 [ inl h ↦ omega arith | inr h ↦ omega arith ]))
 
 -- A record is the pieces before its k-th, that one, and those after.
 pub joined_split : (pieces : List (List ℕ)) (k : ℕ) → joined pieces ≡ joined (take k pieces) ++ (get_or pieces k [] ++ joined (drop (suc k) pieces))

@@ -13,8 +13,9 @@ pub struct Span {
     pub len: usize,
 }
 
-// The bytes of a span: those very bytes of s, or the empty part where any of it lies outside. A range, as `place` has it: of what
-// `get` hands out it is not known where it lies.
+// The bytes of a span: those very bytes of s, or the empty part where any of it lies outside. By a range:
+// clause `place` says where they lie, which of what `get` hands out is not known.
+#[tactic(auto, unfolding(crate::specs::Parts::part_of, crate::specs::Parts::start_of))]
 pub fn part(s: &[u8], span: Span) -> &[u8]
     ensures bytes { result.now ≡ part_of s.now span.at span.len }
     ensures place { (result.ref_ptr.0 ≡ s.entry.ref_ptr.0) × (result.ref_ptr.1 ≡ s.entry.ref_ptr.1 + start_of s.now span.at span.len) }
@@ -28,6 +29,7 @@ pub fn part(s: &[u8], span: Span) -> &[u8]
 }
 
 // The bytes from `at` on; none where that lies behind the end.
+#[tactic(auto, using(crate::proofs::Parts::rest_whole))]
 pub fn rest(s: &[u8], at: usize) -> &[u8]
     ensures { result.now ≡ drop at s.now }
 {
@@ -86,6 +88,7 @@ pub fn be64_at(s: &[u8], at: usize) -> u64
 }
 
 // A slice copied to the start of a lent part.
+#[tactic(auto, unfolding(crate::specs::Parts::onto))]
 pub fn copy_into(dst: &mut [u8], src: &[u8])
     ensures { dst.new ≡ onto src.now dst.old }
 {
@@ -95,6 +98,7 @@ pub fn copy_into(dst: &mut [u8], src: &[u8])
 }
 
 // A u64 put at the start of a lent part, little-endian.
+#[tactic(auto, using(crate::proofs::Numbers::le_stored))]
 pub fn put_le64(dst: &mut [u8], x: u64)
     ensures { dst.new ≡ onto (le_bytes 8 x) dst.old }
 {

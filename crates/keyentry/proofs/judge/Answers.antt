@@ -20,10 +20,10 @@ returns-then-le32_at-len c =
 pub returns-then-is_outside : goal.returns-then-is_outside
 unfolding entry_checks first_of
 returns-then-is_outside c =
-    rw (le-ltb _ _ c.if-len-gt-LIMIT.false, le-ltb _ _ c.if-len-lt20.false, ← c.le32_at.ensures, eq-eqb _ _ c.if-le32_at-len.false, ← c.le32_at-p.ensures, sym c.is_outside.ensures ∙ c.if-is_outside.true)
+    rw (le-ltb _ _ c.if-len-gt-LIMIT.false, le-ltb _ _ c.if-len-lt20.false, ← c.le32_at.ensures, eq-eqb _ _ c.if-le32_at-len.false, ← c.le32_at-at.ensures, sym c.is_outside.ensures ∙ c.if-is_outside.true)
 
 pub returns : goal.returns
 unfolding entry_checks first_of
 returns c =
-    rw (le-ltb _ _ c.if-len-gt-LIMIT.false, le-ltb _ _ c.if-len-lt20.false, ← c.le32_at.ensures, eq-eqb _ _ c.if-le32_at-len.false, ← c.le32_at-p.ensures, sym c.is_outside.ensures ∙ c.if-is_outside.false)
+    rw (le-ltb _ _ c.if-len-gt-LIMIT.false, le-ltb _ _ c.if-len-lt20.false, ← c.le32_at.ensures, eq-eqb _ _ c.if-le32_at-len.false, ← c.le32_at-at.ensures, sym c.is_outside.ensures ∙ c.if-is_outside.false)
     (rw (← c.le32_at-2.ensures, ← c.le32_at-3.ensures, ← c.le32_at-4.ensures) c.judge_items.ensures)

@@ -6,17 +6,17 @@ use Rattle.keyentry.proofs.judge_items.Goals as goal
 
 ruleset tests = (eq-eqb, ne_eqb, lt-ltb, le-ltb, rules)
 
-pub returns-then-n-lt4 : goal.returns-then-n-lt4
+pub returns-then-item-lt4 : goal.returns-then-item-lt4
 unfolding item_checks first_of
-returns-then-n-lt4 c = search tests
+returns-then-item-lt4 c = search tests
 
-pub returns-then-len-p : goal.returns-then-len-p
+pub returns-then-len-end : goal.returns-then-len-end
 unfolding item_checks first_of
-returns-then-len-p c = search tests
+returns-then-len-end c = search tests
 
-pub returns-then-e-eq0 : goal.returns-then-e-eq0
+pub returns-then-fek-eq0 : goal.returns-then-fek-eq0
 unfolding item_checks first_of
-returns-then-e-eq0 c = search tests
+returns-then-fek-eq0 c = search tests
 
 pub returns-then-is_outside : goal.returns-then-is_outside
 unfolding item_checks first_of
@@ -25,4 +25,4 @@ returns-then-is_outside c = search (sym c.is_outside.ensures ∙ c.if-is_outside
 pub returns : goal.returns
 unfolding item_checks first_of
 returns c =
-    rw (le-ltb _ _ c.if-n-lt4.false, le-ltb _ _ c.if-len-p.false, ne_eqb _ _ c.if-e-eq0.false, sym c.is_outside.ensures ∙ c.if-is_outside.false) c.judge_runs.ensures
+    rw (le-ltb _ _ c.if-item-lt4.false, ← c.end.ensures, le-ltb _ _ c.if-len-end.false, ne_eqb _ _ c.if-fek-eq0.false, sym c.is_outside.ensures ∙ c.if-is_outside.false) c.judge_runs.ensures

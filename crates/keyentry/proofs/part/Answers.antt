@@ -7,5 +7,5 @@ use Rattle.keyentry.proofs.part.Goals as goal
 
 pub returns : goal.returns
 returns c =
-    let told = handed_out _ _ _ _ _ c.args.s.ref_ptr.1 (c.span.ensures ∙ ap (λ r. span_of r c.args.which) c.read.ensures) (part_inside _ c.args.which) (c.part.ensures.bytes, c.part.ensures.place) in
+    let told = handed_out _ _ _ _ _ c.args.s.ref_ptr.1 (c.span_of.ensures ∙ ap (λ r. span_of r c.args.which) c.read.ensures) (part_inside _ c.args.which) (c.part.ensures.bytes, c.part.ensures.place) in
     record { bytes = told.0; place = told.1 }

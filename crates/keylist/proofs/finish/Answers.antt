@@ -11,4 +11,4 @@ returns-then-place-list c = c.stay.ensures ∙ search tests
 
 pub returns : goal.returns
 unfolding end_at arrived place_after
-returns c = c.stay-2.ensures ∙ search tests
+returns c = rw c.whole.ensures at c.stay-2.ensures ∙ search tests

@@ -7,18 +7,15 @@ use Rattle.keylist.proofs.judge.Goals as goal
 
 pub returns-then-list-gt-LIMIT : goal.returns-then-list-gt-LIMIT
 unfolding list_of list_checks first_of unless_refused
-returns-then-list-gt-LIMIT c = rw (lt-ltb _ _ c.if-list-gt-LIMIT.true)
+returns-then-list-gt-LIMIT c = rw (c.whole.ensures, lt-ltb _ _ c.if-list-gt-LIMIT.true)
 
 pub returns-then-list-lt4 : goal.returns-then-list-lt4
 unfolding list_of list_checks first_of unless_refused
-returns-then-list-lt4 c = rw (le-ltb _ _ c.if-list-gt-LIMIT.false, lt-ltb _ _ c.if-list-lt4.true)
+returns-then-list-lt4 c = rw (c.whole-then-list-lt4.ensures, le-ltb _ _ c.if-list-gt-LIMIT.false, lt-ltb _ _ c.if-list-lt4.true)
 
 pub loop-index-init : goal.loop-index-init
 unfolding list_of unless_refused
 loop-index-init c = (omega arith, rw (within _ c.if-list-gt-LIMIT.false c.if-list-lt4.false, sub-zero))
-
-pub loop-index-smaller : goal.loop-index-smaller
-loop-index-smaller c = omega (arith, c.le32_at-count.ensures)
 
 -- past a record that is accepted
 pub overflow_add-at : goal.overflow_add-at
@@ -39,10 +36,11 @@ pub returns-then-at-list : goal.returns-then-at-list
 unfolding entries_from
 returns-then-at-list c =
     let done : count_of c.args.list.now - c.loop-index.index ≡ 0 = omega (arith, c.le32_at-count.ensures) in
-    rw (done, eq-eqb _ _ c.if-at-list.true) at c.loop-index.invariant.1
+    let all : c.le32_at-count.result ≡ c.loop-index.index = omega (arith, c.le32_at-count.ensures) in
+    rw all (rw (done, eq-eqb _ _ c.if-at-list.true) at c.loop-index.invariant.1)
 
 pub returns : goal.returns
 unfolding entries_from
 returns c =
     let done : count_of c.args.list.now - c.loop-index.index ≡ 0 = omega (arith, c.le32_at-count.ensures) in
-    rw (done, ne_eqb _ _ c.if-at-list.false) at c.loop-index.invariant.1
+    rw c.whole-2.ensures (rw (done, ne_eqb _ _ c.if-at-list.false) at c.loop-index.invariant.1)

@@ -4,6 +4,3 @@ use Rattle.keylist.proofs.judge.Given as goal
 
 abbrev pub invariant-loop-index : goal.invariant-loop-index
 invariant-loop-index l = (l.index ≤ count_of l.list) × (entries_from (count_of l.list - l.index) l.list l.at l.index ≡ list_of l.list)
-
-abbrev pub decreases-loop-index : goal.decreases-loop-index
-decreases-loop-index l = count_of l.list - l.index

@@ -1,11 +1,13 @@
--- `answer_of`: the record is told.
+-- `answer_of`: 26 as it stands, or the decision.
+use Rattle.lemmas.proofs.Basics.{◌∙◌}
+use Rattle.lemmas.proofs.Results.{passed_on}
 use Rattle.report.specs.Records.{answered}
 use Rattle.report.proofs.answer_of.Goals as goal
 
-pub returns-in-Ok : goal.returns-in-Ok
+pub returns-in_err-clock : goal.returns-in_err-clock
 unfolding answered
-returns-in-Ok c = rw c.in-Ok.is c.decide_by_verdict.ensures
+returns-in_err-clock c = passed_on c.from_residual.ensures.1 ∙ rw c.in_err-clock.was
 
-pub returns-in-Err : goal.returns-in-Err
+pub returns : goal.returns
 unfolding answered
-returns-in-Err c = rw c.in-Err.is
+returns c = rw c.in_ok-clock.was c.decide_by_verdict.ensures

@@ -5,8 +5,7 @@ use Rattle.line.proofs.Lines.{put-append}
 use Rattle.report.specs.Lines.{answer_words, line_words}
 use Rattle.report.proofs.put_line.Goals as goal
 
-pub returns : goal.returns
+pub returns-clause-put : goal.returns-clause-put
 unfolding put_all line_words
-returns c =
-    rw (c.put_text.ensures, c.put_answer-told.ensures, c.put_text-spaced.ensures, c.put_number-numbered.ensures)
-    (put-append _ (answer_words _) (newline ∷ []))
+returns-clause-put g c =
+    rw (c.text-2.ensures.put, c.put_answer.ensures.put, c.text.ensures.put, c.number.ensures.put) (put-append _ (answer_words _) (newline ∷ []))

@@ -4,8 +4,8 @@ use Rattle.roottable.proofs.step.Goals as goal
 
 pub returns-then-suits : goal.returns-then-suits
 unfolding step_of
-returns-then-suits c = rw (← c.row_at-row.ensures, ← c.suits.ensures, c.if-suits.true, ← c.rank_of.ensures) c.or_better.ensures
+returns-then-suits c = rw (← c.suits.ensures, c.if-suits.true, ← c.rank_of.ensures) c.better.ensures
 
 pub returns : goal.returns
 unfolding step_of
-returns c = rw (← c.row_at-row.ensures, ← c.suits.ensures, c.if-suits.false)
+returns c = rw (← c.suits.ensures, c.if-suits.false)

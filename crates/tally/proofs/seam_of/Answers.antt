@@ -1,21 +1,18 @@
--- `seam_of`: the clocks are told, and compared.
-use Rattle.lemmas.proofs.Basics.{lt-ltb, le-ltb}
+-- `seam_of`: the clocks that meet are compared.
+use Rattle.lemmas.proofs.Basics.{arith, rules}
+use Rattle.std.proofs.lemmas.Bool.Decides.{nat_tests}
 use Rattle.lemmas.specs.Counting.{bit}
 use Rattle.tally.specs.Merging.{seam}
 use Rattle.tally.proofs.seam_of.Goals as goal
 
-pub returns-then-first-last : goal.returns-then-first-last
+pub returns-in-Some-Some : goal.returns-in-Some-Some
 unfolding seam bit
-returns-then-first-last c = rw (c.in-Some.is, c.in-Some-after.is) (search lt-ltb)
-
-pub returns-else-first-last : goal.returns-else-first-last
-unfolding seam bit
-returns-else-first-last c = rw (c.in-Some.is, c.in-Some-after.is) (search le-ltb)
-
-pub returns-in_default-after : goal.returns-in_default-after
-unfolding seam
-returns-in_default-after c = rw (c.in-Some.is, c.in_default-after.is)
+returns-in-Some-Some c = rw (c.in-Some-Some.is-0, c.in-Some-Some.is-1) (grind (arith, nat_tests))
 
 pub returns-in_default : goal.returns-in_default
 unfolding seam
-returns-in_default c = rw c.in_default.is
+returns-in_default c = search rules
+
+pub returns-in_default-2 : goal.returns-in_default-2
+unfolding seam
+returns-in_default-2 c = search rules

@@ -1,17 +1,17 @@
 -- `read`: what the checks came to is told.
 use Rattle.lemmas.proofs.Basics.{refl, sym, ◌∙◌}
+use Rattle.lemmas.proofs.Results.{passed_on}
 use Rattle.refusal.specs.Chain.{unless_refused}
 use Rattle.trace.proofs.Reading.{record_judged, accepted-whole}
 use Rattle.trace.proofs.read.Goals as goal
 
 pub shown-requires : goal.shown-requires
-unfolding unless_refused
-shown-requires c = accepted-whole _ (sym c.judge.ensures ∙ c.in-Ok.is)
+shown-requires c = accepted-whole _ (sym c.judge.ensures ∙ c.in_ok-judge.was)
 
-pub returns-in-Ok : goal.returns-in-Ok
+pub returns-in_err-judge : goal.returns-in_err-judge
 unfolding unless_refused
-returns-in-Ok c = sym (record_judged _ (sym c.in-Ok.is ∙ c.judge.ensures) c.shown.ensures)
+returns-in_err-judge c = passed_on c.from_residual.ensures.1 ∙ sym (record_judged _ (sym c.in_err-judge.was ∙ c.judge.ensures) refl)
 
-pub returns-in-Err : goal.returns-in-Err
+pub returns : goal.returns
 unfolding unless_refused
-returns-in-Err c = sym (record_judged _ (sym c.in-Err.is ∙ c.judge.ensures) refl)
+returns c = sym (record_judged _ (sym c.in_ok-judge.was ∙ c.judge.ensures) c.shown.ensures)

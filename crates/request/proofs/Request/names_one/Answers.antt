@@ -15,4 +15,4 @@ returns c =
     let i0 = c.is_natural.ensures ∙ ap non_neg l0 in
     let i1 = c.is_natural-2.ensures ∙ ap non_neg l1 in
     let i2 = c.is_natural-3.ensures ∙ ap non_neg l2 in
-    rw (← i0, ← i1, ← i2) c.all.ensures
+    rw (← i0, ← i1, ← i2)

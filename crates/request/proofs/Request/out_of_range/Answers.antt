@@ -14,4 +14,4 @@ returns c =
     let i0 = c.is_below.ensures ∙ ap below l0 in
     let i1 = c.is_outside.ensures ∙ ap outside l1 in
     let i2 = c.is_outside-2.ensures ∙ ap outside l2 in
-    rw (← i0, ← i1, ← i2) c.any.ensures
+    rw (← i0, ← i1, ← i2)

@@ -1,4 +1,6 @@
 -- `Wanted::suits`: by cases.
+use Rattle.lemmas.proofs.Basics.{arith}
+use Rattle.std.proofs.lemmas.Bool.Decides.{nat_tests}
 use Rattle.roottable.specs.Rows.{suitable}
 use Rattle.roottable.proofs.Wanted.suits.Goals as goal
 
@@ -12,4 +14,4 @@ returns-in-Newest c = rw c.in-Newest.is
 
 pub returns-in-InUse : goal.returns-in-InUse
 unfolding suitable
-returns-in-InUse c = rw c.in-InUse.is
+returns-in-InUse c = rw c.in-InUse.is (grind (arith, nat_tests))

@@ -1,17 +1,32 @@
--- `Tally::merged`: where each sum fits, the sums; else none.
-use Rattle.lemmas.proofs.Basics.{◌≡◌, ◌&&◌, sym, ◌∙◌}
-use Rattle.tally.specs.Merging.{merge, fits, merged_of}
-use Rattle.tally.proofs.Laws.{sums_fit}
+-- `Tally::merged`: a count that does not fit, or the sums.
+use Rattle.lemmas.proofs.Basics.{arith}
+use Rattle.tally.specs.Merging.{merge}
+use Rattle.tally.proofs.Laws.{full, fits_all}
 use Rattle.tally.proofs.Tally.merged.Goals as goal
 
-pub returns-then-fit : goal.returns-then-fit
-unfolding merged_of merge
-returns-then-fit c =
-    let tested : (c.fit.result && (c.fit-2.result && c.fit-3.result)) ≡ fits (merge c.args.self c.args.next) = sums_fit _ _ c.seam_of-more.ensures c.fit.ensures c.fit-2.ensures c.fit-3.ensures in
-    rw (c.join.ensures, sym (tested) ∙ c.if-fit.true, c.seam_of-more.ensures)
+pub returns-in_err-checked_add : goal.returns-in_err-checked_add
+unfolding merge
+returns-in_err-checked_add c = rw c.from_residual.ensures (full _ _ (λ a r e. c.in_err-checked_add.ensures a))
+
+pub returns-in_err-checked_add-2 : goal.returns-in_err-checked_add-2
+unfolding merge
+returns-in_err-checked_add-2 c = rw c.from_residual-in_err-checked_add-2.ensures (full _ _ (λ a r e. c.in_err-checked_add-2.ensures r))
+
+pub returns-in_err-checked_add-3 : goal.returns-in_err-checked_add-3
+unfolding merge
+returns-in_err-checked_add-3 c = rw c.from_residual-in_err-checked_add-3.ensures (full _ _ (λ a r e. c.in_err-checked_add-3.ensures (omega arith)))
+
+pub returns-in_err-checked_add-4 : goal.returns-in_err-checked_add-4
+unfolding merge
+returns-in_err-checked_add-4 c =
+    rw c.from_residual-in_err-checked_add-4.ensures
+    (full _ _ (λ a r e. let sum = c.in_ok-checked_add-3.ensures in c.in_err-checked_add-4.ensures (omega (arith, c.seam_of-more.ensures))))
 
 pub returns : goal.returns
-unfolding merged_of
+unfolding merge
 returns c =
-    let tested : (c.fit.result && (c.fit-2.result && c.fit-3.result)) ≡ fits (merge c.args.self c.args.next) = sums_fit _ _ c.seam_of-more.ensures c.fit.ensures c.fit-2.ensures c.fit-3.ensures in
-    rw (sym (tested) ∙ c.if-fit.false)
+    let a = c.in_ok-checked_add.ensures in
+    let r = c.in_ok-checked_add-2.ensures in
+    let sum = c.in_ok-checked_add-3.ensures in
+    let e = c.in_ok-checked_add-4.ensures in
+    rw (a.1, r.1, e.1, sum.1, c.seam_of-more.ensures, c.join.ensures) (fits_all _ _ a.0 r.0 (omega (arith, c.seam_of-more.ensures)))

@@ -1,8 +1,0 @@
-use Rattle.line.proofs.Decimals.{Spelt}
-use Rattle.line.proofs.put_number.Given as goal
-
-abbrev pub invariant-loop-rest : goal.invariant-loop-rest
-invariant-loop-rest l = Spelt l.n l.digits l.rest l.i
-
-abbrev pub decreases-loop-rest : goal.decreases-loop-rest
-decreases-loop-rest l = l.i
