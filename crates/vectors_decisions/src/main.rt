@@ -5,11 +5,10 @@
 use getkey::{Answer, Rights};
 use gkid::{FileTime, Gkid};
 use keys::Form;
-use line::Line;
+use line::{Line, Text};
 use request::{Request, Root};
 use rootid::RootId;
 use std::io;
-use wire::Span;
 
 const NOW: FileTime = FileTime(1_880_280_000_000_000);
 
@@ -38,45 +37,45 @@ fn bench(rt: &impl Print) -> io::Result<()> {
         root(1),
         [4, 2, 2],
     )?;
-    both_ways(rt, b"decision: no root, named: ", None, [4, 0, 2])?;
-    both_ways(rt, b"decision: next after now: ", None, [5, 3, 8])?;
-    both_ways(rt, b"decision: L1 of -1 alone: ", None, [0, -1, 0])?;
-    both_ways(rt, b"decision: L2 of 32: ", None, [0, 0, 32])
+    both_ways(rt, b"decision: no root, named: ", Root::None, [4, 0, 2])?;
+    both_ways(rt, b"decision: next after now: ", Root::None, [5, 3, 8])?;
+    both_ways(rt, b"decision: L1 of -1 alone: ", Root::None, [0, -1, 0])?;
+    both_ways(rt, b"decision: L2 of 32: ", Root::None, [0, 0, 32])
 }
 
 fn granted(rt: &impl Print) -> io::Result<()> {
-    asked(rt, b"decision: no root, latest: ", None, LATEST)?;
+    asked(rt, b"decision: no root, latest: ", Root::None, LATEST)?;
     asked(rt, b"decision: root given, latest: ", root(1), LATEST)?;
-    asked(rt, b"decision: no root, now: ", None, [5, 3, 7])?;
+    asked(rt, b"decision: no root, now: ", Root::None, [5, 3, 7])?;
     asked(rt, b"decision: root given, now: ", root(1), [5, 3, 7])?;
-    asked(rt, b"decision: no root, L2 of 31: ", None, [5, 2, 31])?;
-    asked(rt, b"decision: no root, L1 of 1: ", None, [5, 1, 0])?;
+    asked(rt, b"decision: no root, L2 of 31: ", Root::None, [5, 2, 31])?;
+    asked(rt, b"decision: no root, L1 of 1: ", Root::None, [5, 1, 0])?;
     asked(rt, b"decision: another root, latest: ", root(2), LATEST)?;
     asked(rt, b"decision: another root, named: ", root(2), [5, 0, 0])
 }
 
 fn indices(rt: &impl Print) -> io::Result<()> {
-    asked(rt, b"decision: L0 of -2: ", None, [-2, -2, -2])?;
+    asked(rt, b"decision: L0 of -2: ", Root::None, [-2, -2, -2])?;
     asked(
         rt,
         b"decision: least L0: ",
-        None,
+        Root::None,
         [-2_147_483_648, 0, 0],
     )?;
     asked(
         rt,
         b"decision: greatest L0: ",
-        None,
+        Root::None,
         [2_147_483_647, 0, 0],
     )?;
-    asked(rt, b"decision: L1 of 32: ", None, [0, 32, 0])?;
-    asked(rt, b"decision: L1 of -2: ", None, [0, -2, 0])?;
-    asked(rt, b"decision: L2 of -2: ", None, [0, 0, -2])?;
-    asked(rt, b"decision: L0 of -1 alone: ", None, [-1, 0, 0])?;
-    asked(rt, b"decision: L2 of -1 alone: ", None, [0, 0, -1])?;
-    asked(rt, b"decision: L0 and L1 of -1: ", None, [-1, -1, 0])?;
-    asked(rt, b"decision: L1 later, L0 now's: ", None, [5, 4, 0])?;
-    asked(rt, b"decision: L0 later: ", None, [6, 0, 0])
+    asked(rt, b"decision: L1 of 32: ", Root::None, [0, 32, 0])?;
+    asked(rt, b"decision: L1 of -2: ", Root::None, [0, -2, 0])?;
+    asked(rt, b"decision: L2 of -2: ", Root::None, [0, 0, -2])?;
+    asked(rt, b"decision: L0 of -1 alone: ", Root::None, [-1, 0, 0])?;
+    asked(rt, b"decision: L2 of -1 alone: ", Root::None, [0, 0, -1])?;
+    asked(rt, b"decision: L0 and L1 of -1: ", Root::None, [-1, -1, 0])?;
+    asked(rt, b"decision: L1 later, L0 now's: ", Root::None, [5, 4, 0])?;
+    asked(rt, b"decision: L0 later: ", Root::None, [6, 0, 0])
 }
 
 fn rights(rt: &impl Print) -> io::Result<()> {
@@ -84,7 +83,7 @@ fn rights(rt: &impl Print) -> io::Result<()> {
         rt,
         b"decision: public, latest: ",
         Rights::Public,
-        None,
+        Root::None,
         LATEST,
     )?;
     allowed(
@@ -98,7 +97,7 @@ fn rights(rt: &impl Print) -> io::Result<()> {
         rt,
         b"decision: public, named: ",
         Rights::Public,
-        None,
+        Root::None,
         [4, 0, 2],
     )?;
     allowed(
@@ -112,7 +111,7 @@ fn rights(rt: &impl Print) -> io::Result<()> {
         rt,
         b"decision: no rights, latest: ",
         Rights::None,
-        None,
+        Root::None,
         LATEST,
     )
 }
@@ -123,7 +122,7 @@ fn tables(rt: &impl Print) -> io::Result<()> {
         rt,
         b"decision: no row, latest: ",
         Rights::Seed,
-        None,
+        Root::None,
         LATEST,
         empty,
     )?;
@@ -131,7 +130,7 @@ fn tables(rt: &impl Print) -> io::Result<()> {
         rt,
         b"decision: no row, public: ",
         Rights::Public,
-        None,
+        Root::None,
         LATEST,
         empty,
     )?;
@@ -147,7 +146,7 @@ fn tables(rt: &impl Print) -> io::Result<()> {
         rt,
         b"decision: no row, named: ",
         Rights::Seed,
-        None,
+        Root::None,
         [4, 0, 2],
         empty,
     )?;
@@ -173,7 +172,7 @@ fn tables(rt: &impl Print) -> io::Result<()> {
         rt,
         b"decision: half a row: ",
         Rights::Seed,
-        None,
+        Root::None,
         LATEST,
         cases::first(&table, 16),
     )?;
@@ -181,7 +180,7 @@ fn tables(rt: &impl Print) -> io::Result<()> {
         rt,
         b"decision: a row and a byte: ",
         Rights::Seed,
-        None,
+        Root::None,
         LATEST,
         cases::first(&table, 33),
     )
@@ -214,7 +213,7 @@ fn ties(rt: &impl Print) -> io::Result<()> {
         rt,
         b"decision: first of the highest use-start: ",
         Rights::Seed,
-        None,
+        Root::None,
         LATEST,
         &table,
     )?;
@@ -222,7 +221,7 @@ fn ties(rt: &impl Print) -> io::Result<()> {
         rt,
         b"decision: first of the highest create time: ",
         Rights::Seed,
-        None,
+        Root::None,
         [4, 0, 2],
         &table,
     )?;
@@ -230,7 +229,7 @@ fn ties(rt: &impl Print) -> io::Result<()> {
         rt,
         b"decision: none in use at 0: ",
         Rights::Seed,
-        None,
+        Root::None,
         [0, 0, 0],
         &table,
     )
@@ -245,7 +244,7 @@ fn starts(rt: &impl Print) -> io::Result<()> {
         rt,
         b"decision: in use from the start on: ",
         Rights::Seed,
-        None,
+        Root::None,
         [4, 0, 2],
         &table,
     )?;
@@ -253,7 +252,7 @@ fn starts(rt: &impl Print) -> io::Result<()> {
         rt,
         b"decision: in use a tick after the start: ",
         Rights::Seed,
-        None,
+        Root::None,
         [4, 0, 2],
         cases::first(&table, 32),
     )?;
@@ -261,7 +260,7 @@ fn starts(rt: &impl Print) -> io::Result<()> {
         rt,
         b"decision: both in use, highest create time: ",
         Rights::Seed,
-        None,
+        Root::None,
         [4, 0, 3],
         &table,
     )?;
@@ -270,7 +269,7 @@ fn starts(rt: &impl Print) -> io::Result<()> {
         rt,
         b"decision: latest, use-start to come: ",
         Rights::Seed,
-        None,
+        Root::None,
         LATEST,
         &table,
     )?;
@@ -314,9 +313,12 @@ fn least() -> [u8; 20] {
 fn described(rt: &impl Print, name: &[u8], descriptor: &[u8], indices: [i32; 3]) -> io::Result<()> {
     let mut table = [0; 32];
     row(&mut table, 0, 1, 3, 4);
-    let asked = request(None, indices);
+    let asked = request(Root::None, indices);
     let answer = getkey::decide(descriptor, Rights::Seed, asked, NOW, &table);
-    print(rt, decided(Line::new().text(name), answer))
+    let mut line = Line::new();
+    line.text(name);
+    decided(&mut line, answer);
+    print(rt, line)
 }
 
 // Each refusal where the next in order applies too.
@@ -325,30 +327,27 @@ fn orders(rt: &impl Print) -> io::Result<()> {
     let refused = getkey::decide_by_verdict(
         false,
         Rights::Seed,
-        request(None, [0, 0, 32]),
+        request(Root::None, [0, 0, 32]),
         NOW,
         &short,
     );
-    print(
-        rt,
-        decided(
-            Line::new().text(b"decision: 16 before 14, by verdict: "),
-            refused,
-        ),
-    )?;
-    asked(rt, b"decision: 14 before 15: ", None, [0, -1, 32])?;
+    let mut line = Line::new();
+    line.text(b"decision: 16 before 14, by verdict: ");
+    decided(&mut line, refused);
+    print(rt, line)?;
+    asked(rt, b"decision: 14 before 15: ", Root::None, [0, -1, 32])?;
     asked(
         rt,
         b"decision: 14 before 15, L0 of -2: ",
-        None,
+        Root::None,
         [-2, -1, 0],
     )?;
-    asked(rt, b"decision: 15 before 17: ", None, [6, -1, 0])?;
+    asked(rt, b"decision: 15 before 17: ", Root::None, [6, -1, 0])?;
     allowed(
         rt,
         b"decision: 17 before 18: ",
         Rights::None,
-        None,
+        Root::None,
         [5, 3, 8],
     )?;
     answer(
@@ -370,7 +369,7 @@ fn orders(rt: &impl Print) -> io::Result<()> {
 }
 
 fn root(low: u64) -> Root {
-    Some(RootId { high: 0, low })
+    Root::Given(RootId { high: 0, low })
 }
 
 fn request(root: Root, indices: [i32; 3]) -> Request {
@@ -419,10 +418,11 @@ fn both_ways(rt: &impl Print, name: &[u8], root: Root, indices: [i32; 3]) -> io:
     let mut table = [0; 32];
     row(&mut table, 0, 1, 3, 4);
     let answer = getkey::decide_by_verdict(true, Rights::Seed, request(root, indices), NOW, &table);
-    print(
-        rt,
-        decided(Line::new().text(name).text(b"by verdict "), answer),
-    )
+    let mut line = Line::new();
+    line.text(name);
+    line.text(b"by verdict ");
+    decided(&mut line, answer);
+    print(rt, line)
 }
 
 // With seed rights, and one row that suits.
@@ -453,31 +453,39 @@ fn answer(
 ) -> io::Result<()> {
     let descriptor = least();
     let answer = getkey::decide(&descriptor, rights, request(root, indices), NOW, table);
-    print(rt, decided(Line::new().text(name), answer))
+    let mut line = Line::new();
+    line.text(name);
+    decided(&mut line, answer);
+    print(rt, line)
 }
 
 // The row or CREATE, or the refusal.
-fn decided(line: Line, answer: Answer) -> Line {
+fn decided(line: &mut Line, answer: Answer) {
     match answer {
-        OkRow { at, form, row } => granted_form(line, at, form)
-            .text(b" ROW ")
-            .number(row as u64),
-        OkCreate { at, form } => granted_form(line, at, form).text(b" CREATE"),
-        Err(refusal) => words::refused(line, refusal),
+        Answer::Granted { at, form, row } => {
+            granted_form(line, at, form);
+            line.text(b" ROW ");
+            line.number(row as u64);
+        }
+        Answer::Create { at, form } => {
+            granted_form(line, at, form);
+            line.text(b" CREATE");
+        }
+        Answer::Refused(refusal) => words::refused(line, refusal),
     }
 }
 
 // The identifier, the form, and how many it reaches there.
-fn granted_form(line: Line, at: Gkid, form: Form) -> Line {
-    let reach = reach::form_reach(form, at);
-    let formed = words::form(words::identifier(line, at).text(b" "), form);
-    formed.text(b" ").number(reach.total() as u64)
+fn granted_form(line: &mut Line, at: Gkid, form: Form) {
+    words::identifier(line, at);
+    line.text(b" ");
+    words::form(line, form);
+    line.text(b" ");
+    line.number(reach::form_reach(form, at).total() as u64);
 }
 
 // A finished line, on standard output.
-fn print(rt: &impl Print, line: Line) -> io::Result<()> {
-    let ended = line.text(b"\n");
-    let bytes = ended.bytes;
-    let len = ended.len;
-    rt.write_all(wire::part(&bytes, Span { at: 0, len }))
+fn print(rt: &impl Print, mut line: Line) -> io::Result<()> {
+    line.text(b"\n");
+    rt.write_all(line.as_bytes())
 }

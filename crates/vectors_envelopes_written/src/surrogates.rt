@@ -3,7 +3,7 @@ use crate::print;
 use crate::writer::{head_at, shown};
 use cases::FILL;
 use envelope::Head;
-use line::Line;
+use line::{Line, Text};
 use records::Written;
 use std::io;
 
@@ -173,24 +173,24 @@ fn put(
     l1_key: usize,
 ) -> io::Result<()> {
     let mut out = [FILL; 200];
-    print(
-        rt,
-        written(
-            Line::new().text(name),
-            &mut out,
-            room,
-            head_at(0, l1, 7, 0),
-            kdf,
-            agreement,
-            domain,
-            forest,
-            l1_key,
-        ),
-    )
+    let mut line = Line::new();
+    line.text(name);
+    written(
+        &mut line,
+        &mut out,
+        room,
+        head_at(0, l1, 7, 0),
+        kdf,
+        agreement,
+        domain,
+        forest,
+        l1_key,
+    );
+    print(rt, line)
 }
 
 fn written(
-    line: Line,
+    line: &mut Line,
     out: &mut [u8],
     room: usize,
     head: Head,
@@ -199,7 +199,7 @@ fn written(
     domain: Spelt,
     forest: Spelt,
     l1_key: usize,
-) -> Line {
+) {
     if room <= out.len() {
         let answer = with_algorithms(
             &mut out[0..room],
@@ -210,9 +210,8 @@ fn written(
             forest,
             l1_key,
         );
-        return shown(line, answer, out);
+        shown(line, answer, out);
     }
-    line
 }
 
 fn with_algorithms(
