@@ -6,18 +6,18 @@ use Rattle.refusal.specs.Outcome.{Outcome}
 use Rattle.refusal.specs.declared.Refusal.{Refusal}
 use Rattle.refusal.specs.Chain.{first_of, unless_refused, goes_on}
 use Rattle.refusal.proofs.Chains.{accepted_pass, pass_accepted, first_next, append-accepted, accepted-append, then_first, stops, unless_zero}
+use Rattle.wire.specs.declared.Span.{Span}
 use Rattle.wire.specs.Numbers.{le_of}
 use Rattle.wire.specs.Parts.{le_at, part_of}
 use Rattle.gkid.specs.Identifier.{index_above_31}
 use Rattle.text.specs.Text.{text_checks}
 use Rattle.keys.specs.KeyRule.{key_checks}
 use Rattle.envelope.specs.declared.Head.{Head}
-use Rattle.envelope.specs.declared.Lengths.{Lengths}
 use Rattle.envelope.specs.declared.Bodies.{Bodies}
 use Rattle.envelope.specs.declared.Envelope.{Envelope}
 use Rattle.envelope.specs.declared.EnvelopePart.{EnvelopePart}
 use Rattle.envelope.specs.declared.EnvelopePart.TheVariants.{Kdf, KdfParameters, Agreement, AgreementParameters, Domain, Forest, L1Key, L2Key}
-use Rattle.envelope.specs.Layout.{mark, head_of, is_public, lengths_of, end_at, bodies_of, body_span}
+use Rattle.envelope.specs.Layout.{mark, head_of, is_public, lengths_of, end_at, bodies_of, body_of}
 use Rattle.envelope.specs.Reading.{body_at, head_checks, four_texts, body_checks, layout_checks, envelope_checks, shown, envelope_of, envelope_number, span_of, envelope_span}
 
 -- the answer of an outcome
@@ -30,11 +30,11 @@ unfolding envelope_of
 envelope_judged s judged is-shown = rw (judged, is-shown)
 
 -- The layout's checks from the head, the lengths and the bodies' places, as they were read: the texts' outcome, then the keys'.
-pub layout_judged : (s : List ℕ) {h : Head} {n : Lengths} {b : Bodies} {texts keys : Outcome} → h ≡ head_of s → n ≡ lengths_of s → b ≡ bodies_of n
+pub layout_judged : (s : List ℕ) {h : Head} {n : Bodies ℕ} {b : Bodies Span} {texts keys : Outcome} → h ≡ head_of s → n ≡ lengths_of s → b ≡ bodies_of n
     → index_above_31 h.at ≡ false → end_at n ≡ length s
     → texts ≡ first_of (four_texts (part_of s b.kdf.at b.kdf.len) (part_of s b.agreement.at b.agreement.len) (part_of s b.domain.at b.domain.len) (part_of s b.forest.at b.forest.len))
     → keys ≡ first_of (key_checks (is_public h.flags) h.at h.public_length n.l1_key n.l2_key) → goes_on texts keys ≡ first_of (layout_checks s)
-unfolding layout_checks body_checks body_span
+unfolding layout_checks body_checks body_of
 layout_judged s is_head is-lengths is-bodies indices lengths texts keys =
     rw (← is_head, ← is-lengths, ← is-bodies) (then_first _ _ texts keys ∙ sym (first_next _ _ _ indices ∙ first_next _ _ _ (ap not (eq-eqb _ _ lengths))))
 
@@ -94,8 +94,8 @@ passes s p =
     pass_accepted (envelope_checks s) (p.limit, (p.head, (p.marked, (p.indices, (p.lengths, accepted_pass _ bodies)))))
 
 -- Each body lies inside the envelope.
-pub body_inside : (n : Lengths) (which : EnvelopePart) → (body_span (bodies_of n) which).at + (body_span (bodies_of n) which).len ≤ end_at n
-unfolding body_span bodies_of
+pub body_inside : (n : Bodies ℕ) (which : EnvelopePart) → (body_of (bodies_of n) which).at + (body_of (bodies_of n) which).len ≤ end_at n
+unfolding body_of bodies_of
 body_inside n Kdf = omega arith
 body_inside n KdfParameters = omega arith
 body_inside n Agreement = omega arith

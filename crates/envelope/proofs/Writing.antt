@@ -1,5 +1,5 @@
 -- Laws of the writer: what its bytes read as, and which checks can apply to them.
-use Rattle.lemmas.proofs.Basics.{ℕ, ◌^◌, ◌≤◌, ◌<◌, arith, not, List, [], ◌∷◌, ◌++◌, append-nil, append_assoc, ◌≡◌, refl, ap, ◌∙◌, ltb, length, take, le-ltb, ltb-false, eq-eqb}
+use Rattle.lemmas.proofs.Basics.{ℕ, ◌^◌, ◌≤◌, ◌<◌, arith, not, List, [], ◌∷◌, ◌++◌, append-nil, append_assoc, ◌≡◌, refl, sym, ap, ◌∙◌, false, ltb, length, take, le-ltb, ltb-false, eq-eqb}
 use Rattle.std.specs.Prelude.{Ok}
 use Rattle.refusal.specs.declared.Refusal.TheVariants.{TooLong, IndexAbove31}
 use Rattle.refusal.specs.Chain.{Check, ◌⇒◌, first_of}
@@ -13,10 +13,10 @@ use Rattle.gkid.specs.Identifier.{index_above_31}
 use Rattle.rootid.specs.Root.{root_bytes}
 use Rattle.rootid.proofs.Roots.{root_piece}
 use Rattle.envelope.specs.declared.Head.{Head}
-use Rattle.envelope.specs.declared.Lengths.{Lengths}
+use Rattle.envelope.specs.declared.Bodies.{Bodies}
 use Rattle.envelope.specs.declared.EnvelopePart.{EnvelopePart}
 use Rattle.envelope.specs.declared.EnvelopePart.TheVariants.{Kdf, KdfParameters, Agreement, AgreementParameters, Domain, Forest, L1Key, L2Key}
-use Rattle.envelope.specs.Layout.{mark, head_of, lengths_of, bodies_of, body_span}
+use Rattle.envelope.specs.Layout.{mark, head_of, lengths_of, bodies_of, body_of}
 use Rattle.envelope.specs.Reading.{head_checks, body_checks, layout_checks, envelope_checks}
 use Rattle.envelope.proofs.Reading.{passed}
 use Rattle.envelope.specs.Writing.{Given, given_lengths, envelope_length, head_pieces, body_pieces, pieces, envelope_bytes, write_checks}
@@ -32,17 +32,6 @@ pub record Fit (h : Head) : Type 0 where
   pub low : h.root.low < 2 ^ 64
   pub private_length : h.private_length < 2 ^ 32
   pub public_length : h.public_length < 2 ^ 32
-
--- the body that was given
-abbrev pub body_given : Given → EnvelopePart → List ℕ
-body_given g Kdf = g.kdf
-body_given g KdfParameters = g.kdf_parameters
-body_given g Agreement = g.agreement
-body_given g AgreementParameters = g.agreement_parameters
-body_given g Domain = g.domain
-body_given g Forest = g.forest
-body_given g L1Key = g.l1_key
-body_given g L2Key = g.l2_key
 
 pub length-bytes : (h : Head) (g : Given) → length (envelope_bytes h g) ≡ envelope_length g
 unfolding envelope_bytes le_bytes root_bytes
@@ -87,8 +76,8 @@ module _ (h : Head) (g : Given) (fit : Fit h) (small : envelope_length g ≤ 655
       }
 
 -- The body where the lengths place it is the body that was given.
-pub body_is : (h : Head) (g : Given) (which : EnvelopePart) → part_of (envelope_bytes h g) (body_span (bodies_of (given_lengths g)) which).at (body_span (bodies_of (given_lengths g)) which).len ≡ body_given g which
-unfolding envelope_bytes bodies_of body_span le_bytes root_bytes
+pub body_is : (h : Head) (g : Given) (which : EnvelopePart) → part_of (envelope_bytes h g) (body_of (bodies_of (given_lengths g)) which).at (body_of (bodies_of (given_lengths g)) which).len ≡ body_of g which
+unfolding envelope_bytes bodies_of body_of le_bytes root_bytes
 body_is h g Kdf = piece_part (pieces h g) 17 80 _ (length-joined (take 17 (pieces h g)) ∙ omega arith) refl
 body_is h g KdfParameters = piece_part (pieces h g) 18 _ _ (length-joined (take 18 (pieces h g)) ∙ omega arith) refl
 body_is h g Agreement = piece_part (pieces h g) 19 _ _ (length-joined (take 19 (pieces h g)) ∙ omega arith) refl
@@ -102,20 +91,20 @@ body_is h g L2Key = piece_part (pieces h g) 24 _ _ (length-joined (take 24 (piec
 abbrev pub front : Head → List ℕ
 front h = h.version ∷ 0x4B53444B ∷ h.flags ∷ h.at.l0.0 ∷ h.at.l1.0 ∷ h.at.l2.0 ∷ []
 
-abbrev pub back : Head → Lengths → List ℕ
+abbrev pub back : Head → Bodies ℕ → List ℕ
 back h n = n.kdf ∷ n.kdf_parameters ∷ n.agreement ∷ n.agreement_parameters ∷ h.private_length ∷ h.public_length ∷ n.l1_key ∷ n.l2_key ∷ n.domain ∷ n.forest ∷ []
 
-pub head_runs : (h : Head) (n : Lengths) → (le32_bytes (front h) ++ root_bytes h.root) ++ le32_bytes (back h n) ≡ joined (head_pieces h n)
+pub head_runs : (h : Head) (n : Bodies ℕ) → (le32_bytes (front h) ++ root_bytes h.root) ++ le32_bytes (back h n) ≡ joined (head_pieces h n)
 unfolding le32_bytes joined le_bytes root_bytes
 head_runs h n = refl
 
--- The envelope is its head, then its bodies, two by two.
+-- The envelope is its head, then its bodies.
 pub bytes_are : (h : Head) (g : Given) → envelope_bytes h g
-    ≡ (((joined (head_pieces h (given_lengths g)) ++ (g.kdf ++ g.kdf_parameters)) ++ (g.agreement ++ g.agreement_parameters)) ++ (g.domain ++ g.forest)) ++ (g.l1_key ++ g.l2_key)
+    ≡ (((((((joined (head_pieces h (given_lengths g)) ++ g.kdf) ++ g.kdf_parameters) ++ g.agreement) ++ g.agreement_parameters) ++ g.domain) ++ g.forest) ++ g.l1_key) ++ g.l2_key
 unfolding envelope_bytes joined
 bytes_are h g = joined-append (head_pieces h (given_lengths g)) (body_pieces g) ∙ simp (append_assoc, append-nil)
 
-pub length-head : (h : Head) (n : Lengths) → length (joined (head_pieces h n)) ≡ 80
+pub length-head : (h : Head) (n : Bodies ℕ) → length (joined (head_pieces h n)) ≡ 80
 unfolding joined le_bytes root_bytes
 length-head h n = refl
 
@@ -128,7 +117,7 @@ given_checks h g =
 
 -- Of the reader's checks on the bytes no others can apply.
 pub write_checks_lem : (h : Head) (g : Given) → Fit h → first_of (write_checks h g) ≡ first_of (given_checks h g)
-unfolding write_checks envelope_checks head_checks layout_checks
+unfolding write_checks envelope_checks head_checks layout_checks body_of
 write_checks_lem h g fit =
     rw (length-bytes h g)
     (first_after _ _ _ _ (λ q. let small = ltb-false 65535 (envelope_length g) q in
@@ -144,6 +133,11 @@ write_checks_lem h g fit =
     )
     (first_next _ _ _ (ap not (eq-eqb (le_of mark) (le_of mark) refl))
     ∙ first_after _ _ _ _ (λ _. first_next _ _ _ (ap not (eq-eqb (envelope_length g) (envelope_length g) refl))))))
+
+-- Within the limit, at an identifier of a group, they are those of the bodies.
+pub bodies_judged : (h : Head) (g : Given) → Fit h → envelope_length g ≤ 65535 → index_above_31 h.at ≡ false
+    → first_of (body_checks h g.kdf g.agreement g.domain g.forest (length g.l1_key) (length g.l2_key)) ≡ first_of (write_checks h g)
+bodies_judged h g fit within indices = sym (write_checks_lem h g fit ∙ first_next _ _ _ (le-ltb 65535 _ within) ∙ first_next _ _ _ indices)
 
 -- What is accepted is within the limit.
 pub within_limit : (h : Head) (g : Given) → first_of (write_checks h g) ≡ Ok tt → envelope_length g ≤ 65535

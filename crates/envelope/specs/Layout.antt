@@ -5,7 +5,6 @@ use Rattle.wire.specs.Parts.{le_at}
 use Rattle.gkid.specs.Identifier.{gkid}
 use Rattle.rootid.specs.Root.{root_at}
 use Rattle.envelope.specs.declared.Head.{Head}
-use Rattle.envelope.specs.declared.Lengths.{Lengths}
 use Rattle.envelope.specs.declared.Bodies.{Bodies}
 use Rattle.envelope.specs.declared.EnvelopePart.{EnvelopePart}
 use Rattle.envelope.specs.declared.EnvelopePart.TheVariants.{Kdf, KdfParameters, Agreement, AgreementParameters, Domain, Forest, L1Key, L2Key}
@@ -32,7 +31,7 @@ is_public flags = eqb (flags % 2) 1
 
 -- lengths from 40: KDF algorithm, KDF parameters, agreement algorithm, agreement parameters, (private key length, public key
 -- length,) L1 key, L2 key, domain, forest
-unfoldable pub lengths_of : List ℕ → Lengths
+unfoldable pub lengths_of : List ℕ → Bodies ℕ
 lengths_of s =
     record {
       kdf = le_at 4 s 40;
@@ -46,32 +45,32 @@ lengths_of s =
     }
 
 -- bodies from 80: KDF algorithm, KDF parameters, agreement algorithm, agreement parameters, domain, forest, L1 key, L2 key
-abbrev pub kdf_parameters_at : Lengths → ℕ
+abbrev pub kdf_parameters_at : Bodies ℕ → ℕ
 kdf_parameters_at n = 80 + n.kdf
 
-abbrev pub agreement_at : Lengths → ℕ
+abbrev pub agreement_at : Bodies ℕ → ℕ
 agreement_at n = kdf_parameters_at n + n.kdf_parameters
 
-abbrev pub agreement_parameters_at : Lengths → ℕ
+abbrev pub agreement_parameters_at : Bodies ℕ → ℕ
 agreement_parameters_at n = agreement_at n + n.agreement
 
-abbrev pub domain_at : Lengths → ℕ
+abbrev pub domain_at : Bodies ℕ → ℕ
 domain_at n = agreement_parameters_at n + n.agreement_parameters
 
-abbrev pub forest_at : Lengths → ℕ
+abbrev pub forest_at : Bodies ℕ → ℕ
 forest_at n = domain_at n + n.domain
 
-abbrev pub l1_key_at : Lengths → ℕ
+abbrev pub l1_key_at : Bodies ℕ → ℕ
 l1_key_at n = forest_at n + n.forest
 
-abbrev pub l2_key_at : Lengths → ℕ
+abbrev pub l2_key_at : Bodies ℕ → ℕ
 l2_key_at n = l1_key_at n + n.l1_key
 
 -- 80 plus the eight body lengths
-abbrev pub end_at : Lengths → ℕ
+abbrev pub end_at : Bodies ℕ → ℕ
 end_at n = l2_key_at n + n.l2_key
 
-unfoldable pub bodies_of : Lengths → Bodies
+unfoldable pub bodies_of : Bodies ℕ → Bodies Span
 bodies_of n =
     record {
       kdf = record { at = 80; len = n.kdf };
@@ -84,12 +83,13 @@ bodies_of n =
       l2_key = record { at = l2_key_at n; len = n.l2_key };
     }
 
-unfoldable pub body_span : Bodies → EnvelopePart → Span
-body_span b Kdf = b.kdf
-body_span b KdfParameters = b.kdf_parameters
-body_span b Agreement = b.agreement
-body_span b AgreementParameters = b.agreement_parameters
-body_span b Domain = b.domain
-body_span b Forest = b.forest
-body_span b L1Key = b.l1_key
-body_span b L2Key = b.l2_key
+-- of the eight the one asked for
+unfoldable pub body_of : {A : Type 0} → Bodies A → EnvelopePart → A
+body_of b Kdf = b.kdf
+body_of b KdfParameters = b.kdf_parameters
+body_of b Agreement = b.agreement
+body_of b AgreementParameters = b.agreement_parameters
+body_of b Domain = b.domain
+body_of b Forest = b.forest
+body_of b L1Key = b.l1_key
+body_of b L2Key = b.l2_key

@@ -1,5 +1,6 @@
 -- Document 01, "Group Key Envelope": what the writer makes and answers.
 use Rattle.std.specs.Prelude.{ℕ, List, [], ◌∷◌, ◌++◌, length, Result}
+use Rattle.std.specs.Borrow.{Bor}
 use Rattle.refusal.specs.declared.Refusal.{Refusal}
 use Rattle.refusal.specs.Chain.{Check, first_of}
 use Rattle.wire.specs.Numbers.{le_bytes}
@@ -7,26 +8,23 @@ use Rattle.wire.specs.Parts.{joined}
 use Rattle.rootid.specs.Root.{root_bytes}
 use Rattle.records.specs.Writing.{written_of}
 use Rattle.envelope.specs.declared.Head.{Head}
-use Rattle.envelope.specs.declared.Lengths.{Lengths}
+use Rattle.envelope.specs.declared.Bodies.{Bodies}
 use Rattle.envelope.specs.Layout.{mark, end_at}
 use Rattle.envelope.specs.Reading.{envelope_checks}
 
 -- the eight bodies that the writer is given
-pub record Given : Type 0 where
-  pub kdf : List ℕ
-  pub kdf_parameters : List ℕ
-  pub agreement : List ℕ
-  pub agreement_parameters : List ℕ
-  pub domain : List ℕ
-  pub forest : List ℕ
-  pub l1_key : List ℕ
-  pub l2_key : List ℕ
+abbrev pub Given : Type 0
+Given = Bodies (List ℕ)
 
 abbrev pub given : List ℕ → List ℕ → List ℕ → List ℕ → List ℕ → List ℕ → List ℕ → List ℕ → Given
 given a b c d e f k l = record { kdf = a; kdf_parameters = b; agreement = c; agreement_parameters = d; domain = e; forest = f; l1_key = k; l2_key = l }
 
+-- what the slices that it is handed hold
+abbrev pub given_in : Bodies (Bor (List ℕ)) → Given
+given_in b = given b.kdf.now b.kdf_parameters.now b.agreement.now b.agreement_parameters.now b.domain.now b.forest.now b.l1_key.now b.l2_key.now
+
 -- writers derive lengths from what they are given
-abbrev pub given_lengths : Given → Lengths
+abbrev pub given_lengths : Given → Bodies ℕ
 given_lengths g =
     record {
       kdf = length g.kdf;
@@ -44,7 +42,7 @@ abbrev pub envelope_length : Given → ℕ
 envelope_length g = end_at (given_lengths g)
 
 -- the head: domain and forest lengths come after the keys' lengths
-abbrev pub head_pieces : Head → Lengths → List (List ℕ)
+abbrev pub head_pieces : Head → Bodies ℕ → List (List ℕ)
 head_pieces h n =
     le_bytes 4 h.version
     ∷ mark

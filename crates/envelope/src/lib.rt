@@ -7,9 +7,9 @@ ghost use Rattle.wire.specs.Parts.{onto, joined};
 ghost use Rattle.records.specs.Writing.{output_of};
 ghost use Rattle.keys.specs.KeyRule.{key_checks};
 ghost use Rattle.keys.specs.Forms.{keys_of};
-ghost use Rattle.envelope.specs.Layout.{head_of, is_public, lengths_of, end_at, bodies_of, body_span};
+ghost use Rattle.envelope.specs.Layout.{head_of, is_public, lengths_of, end_at, bodies_of, body_of};
 ghost use Rattle.envelope.specs.Reading.{head_checks, four_texts, layout_checks, envelope_checks, shown, envelope_of, span_of, envelope_span, envelope_part, form_of};
-ghost use Rattle.envelope.specs.Writing.{given, envelope_length, head_pieces, envelope_bytes, write_checks, envelope_written};
+ghost use Rattle.envelope.specs.Writing.{given_in, given_lengths, envelope_length, head_pieces, envelope_bytes, write_checks, envelope_written};
 
 use gkid::{Gkid, L0, L1, L2};
 use keys::{Form, SeedKeys};
@@ -29,24 +29,24 @@ pub struct Head {
     pub public_length: u32,
 }
 
-// Where the eight bodies stand, in their order.
+// The eight bodies, in their order: of each its length, where it stands, or its bytes.
 #[derive(Clone, Copy, Debug, PartialEq, Eq)]
-pub struct Bodies {
-    pub kdf: Span,
-    pub kdf_parameters: Span,
-    pub agreement: Span,
-    pub agreement_parameters: Span,
-    pub domain: Span,
-    pub forest: Span,
-    pub l1_key: Span,
-    pub l2_key: Span,
+pub struct Bodies<T> {
+    pub kdf: T,
+    pub kdf_parameters: T,
+    pub agreement: T,
+    pub agreement_parameters: T,
+    pub domain: T,
+    pub forest: T,
+    pub l1_key: T,
+    pub l2_key: T,
 }
 
 // An accepted envelope: the head's values, and where the bodies stand.
 #[derive(Clone, Copy, Debug, PartialEq, Eq)]
 pub struct Envelope {
     pub head: Head,
-    pub bodies: Bodies,
+    pub bodies: Bodies<Span>,
 }
 
 // The parts of an envelope: its bodies.
@@ -62,19 +62,6 @@ pub enum EnvelopePart {
     L2Key,
 }
 
-// The eight body lengths, in the order in which the head has them.
-#[derive(Clone, Copy, Debug, PartialEq, Eq)]
-struct Lengths {
-    kdf: u32,
-    kdf_parameters: u32,
-    agreement: u32,
-    agreement_parameters: u32,
-    l1_key: u32,
-    l2_key: u32,
-    domain: u32,
-    forest: u32,
-}
-
 // "Bit 31 (LSB)" of dwFlags has the value 1.
 pub fn is_public(flags: u32) -> bool
     ensures { result ≡ is_public flags }
@@ -87,14 +74,14 @@ pub fn span_of(read: Result<Envelope, Refusal>, which: EnvelopePart) -> Span
     ensures { result ≡ span_of read which }
 {
     match read {
-        Ok(envelope) => envelope.bodies.span(which),
+        Ok(envelope) => envelope.bodies.body(which),
         Err(_) => Span { at: 0, len: 0 },
     }
 }
 
-impl Bodies {
-    fn span(self, which: EnvelopePart) -> Span
-        ensures { result ≡ body_span self which }
+impl<T: Copy> Bodies<T> {
+    fn body(self, which: EnvelopePart) -> T
+        ensures { result ≡ body_of self which }
     {
         match which {
             EnvelopePart::Kdf => self.kdf,
@@ -199,7 +186,7 @@ fn judge_layout(s: &[u8]) -> Result<(), Refusal>
 }
 
 // Where the last body ends: 80 plus the eight lengths.
-fn end_of(n: Lengths) -> usize
+fn end_of(n: Bodies<u32>) -> usize
     ensures { result ≡ end_at n }
 {
     80 + n.kdf as usize
@@ -264,10 +251,10 @@ fn head_of(s: &[u8]) -> Head
 }
 
 // Domain and forest lengths come after the keys' lengths.
-fn lengths_of(s: &[u8]) -> Lengths
+fn lengths_of(s: &[u8]) -> Bodies<u32>
     ensures { result ≡ lengths_of s.now }
 {
-    Lengths {
+    Bodies {
         kdf: le32_at(s, 40),
         kdf_parameters: le32_at(s, 44),
         agreement: le32_at(s, 48),
@@ -280,7 +267,7 @@ fn lengths_of(s: &[u8]) -> Lengths
 }
 
 // Domain and forest bodies come before the keys.
-fn bodies_of(n: Lengths) -> Bodies
+fn bodies_of(n: Bodies<u32>) -> Bodies<Span>
     ensures { result ≡ bodies_of n }
 {
     let kdf_parameters = 80 + n.kdf as usize;
@@ -335,148 +322,99 @@ pub fn part(s: &[u8], which: EnvelopePart) -> &[u8]
 }
 
 // Writes an envelope: what is given is judged, then 13. A refusal keeps the output's bytes; success keeps those behind the record.
-pub fn write(
-    out: &mut [u8],
-    head: Head,
-    kdf: &[u8],
-    kdf_parameters: &[u8],
-    agreement: &[u8],
-    agreement_parameters: &[u8],
-    domain: &[u8],
-    forest: &[u8],
-    l1_key: &[u8],
-    l2_key: &[u8],
-) -> Result<usize, Refusal>
-    ensures answer { result ≡ envelope_written head (given kdf.now kdf_parameters.now agreement.now agreement_parameters.now domain.now forest.now l1_key.now l2_key.now) (length out.old) }
-    ensures output { out.new ≡ output_of result (envelope_bytes head (given kdf.now kdf_parameters.now agreement.now agreement_parameters.now domain.now forest.now l1_key.now l2_key.now)) out.old }
+pub fn write(out: &mut [u8], head: Head, bodies: Bodies<&[u8]>) -> Result<usize, Refusal>
+    ensures answer { result ≡ envelope_written head (given_in bodies.entry) (length out.old) }
+    ensures output { out.new ≡ output_of result (envelope_bytes head (given_in bodies.entry)) out.old }
 {
-    judge_given(
-        head,
-        kdf,
-        kdf_parameters,
-        agreement,
-        agreement_parameters,
-        domain,
-        forest,
-        l1_key,
-        l2_key,
-    )?;
-    let len = 80
-        + kdf.len()
-        + kdf_parameters.len()
-        + agreement.len()
-        + agreement_parameters.len()
-        + domain.len()
-        + forest.len()
-        + l1_key.len()
-        + l2_key.len();
+    judge_given(head, bodies)?;
+    let n = given_lengths(bodies);
+    let len = end_of(n);
     if out.len() < len {
         return Err(Refusal::NoRoom);
     }
-    put(
-        out,
-        head,
-        kdf,
-        kdf_parameters,
-        agreement,
-        agreement_parameters,
-        domain,
-        forest,
-        l1_key,
-        l2_key,
-    );
+    put(out, head, n, bodies);
     Ok(len)
 }
 
 // What the reader would say of the bytes: of its refusals only 1, 5, 10, 24 and 11 can occur.
-fn judge_given(
-    head: Head,
-    kdf: &[u8],
-    kdf_parameters: &[u8],
-    agreement: &[u8],
-    agreement_parameters: &[u8],
-    domain: &[u8],
-    forest: &[u8],
-    l1_key: &[u8],
-    l2_key: &[u8],
-) -> Result<(), Refusal>
-    ensures { result ≡ first_of (write_checks head (given kdf.now kdf_parameters.now agreement.now agreement_parameters.now domain.now forest.now l1_key.now l2_key.now)) }
+fn judge_given(head: Head, bodies: Bodies<&[u8]>) -> Result<(), Refusal>
+    ensures { result ≡ first_of (write_checks head (given_in bodies.entry)) }
 {
-    let first = capped(
-        80,
-        kdf.len(),
-        kdf_parameters.len(),
-        agreement.len(),
-        agreement_parameters.len(),
-    );
-    if LIMIT
-        < capped(
-            first,
-            domain.len(),
-            forest.len(),
-            l1_key.len(),
-            l2_key.len(),
-        )
-    {
+    if LIMIT < capped(bodies) {
         return Err(Refusal::TooLong);
     }
     let at = head.at;
     if at.index_above_31() {
         return Err(Refusal::IndexAbove31);
     }
-    judge_texts(kdf, agreement, domain, forest)?;
-    judge_keys(head, l1_key.len(), l2_key.len())
+    judge_texts(bodies.kdf, bodies.agreement, bodies.domain, bodies.forest)?;
+    judge_keys(head, bodies.l1_key.len(), bodies.l2_key.len())
 }
 
-// A length and four more, or 65,536 where the sum is over the limit.
-fn capped(len: usize, a: usize, b: usize, c: usize, d: usize) -> usize
-    ensures { result ≡ min (len + a + b + c + d) 65536 }
+// The record's length, or 65,536 where it is over the limit.
+fn capped(bodies: Bodies<&[u8]>) -> usize
+    ensures { result ≡ min (envelope_length (given_in bodies.entry)) 65536 }
 {
-    grown(grown(grown(grown(len, a), b), c), d)
+    let sizes = [
+        bodies.kdf.len(),
+        bodies.kdf_parameters.len(),
+        bodies.agreement.len(),
+        bodies.agreement_parameters.len(),
+        bodies.domain.len(),
+        bodies.forest.len(),
+        bodies.l1_key.len(),
+        bodies.l2_key.len(),
+    ];
+    sizes.iter().fold(80, |len, size| grown(len, *size))
 }
 
-// The head, and each body into its own part of the output, by the writer of its kind.
-fn put(
-    out: &mut [u8],
-    head: Head,
-    kdf: &[u8],
-    kdf_parameters: &[u8],
-    agreement: &[u8],
-    agreement_parameters: &[u8],
-    domain: &[u8],
-    forest: &[u8],
-    l1_key: &[u8],
-    l2_key: &[u8],
-)
-    requires { (envelope_length (given kdf.now kdf_parameters.now agreement.now agreement_parameters.now domain.now forest.now l1_key.now l2_key.now) ≤ 65535) × (envelope_length (given kdf.now kdf_parameters.now agreement.now agreement_parameters.now domain.now forest.now l1_key.now l2_key.now) ≤ length out.old) }
-    ensures { out.new ≡ onto (envelope_bytes head (given kdf.now kdf_parameters.now agreement.now agreement_parameters.now domain.now forest.now l1_key.now l2_key.now)) out.old }
+// The lengths of what is given, as the head has them.
+fn given_lengths(bodies: Bodies<&[u8]>) -> Bodies<u32>
+    requires { envelope_length (given_in bodies) ≤ 65535 }
+    ensures { result ≡ given_lengths (given_in bodies.entry) }
 {
-    let lengths = Lengths {
-        kdf: kdf.len() as u32,
-        kdf_parameters: kdf_parameters.len() as u32,
-        agreement: agreement.len() as u32,
-        agreement_parameters: agreement_parameters.len() as u32,
-        l1_key: l1_key.len() as u32,
-        l2_key: l2_key.len() as u32,
-        domain: domain.len() as u32,
-        forest: forest.len() as u32,
-    };
-    let agreement_at = 80 + kdf.len() + kdf_parameters.len();
-    let domain_at = agreement_at + agreement.len() + agreement_parameters.len();
-    let l1_key_at = domain_at + domain.len() + forest.len();
-    let end = l1_key_at + l1_key.len() + l2_key.len();
-    put_head(&mut out[0..80], head, lengths);
-    put_algorithm(&mut out[80..agreement_at], kdf, kdf_parameters);
-    put_algorithm(
-        &mut out[agreement_at..domain_at],
-        agreement,
-        agreement_parameters,
+    Bodies {
+        kdf: bodies.kdf.len() as u32,
+        kdf_parameters: bodies.kdf_parameters.len() as u32,
+        agreement: bodies.agreement.len() as u32,
+        agreement_parameters: bodies.agreement_parameters.len() as u32,
+        domain: bodies.domain.len() as u32,
+        forest: bodies.forest.len() as u32,
+        l1_key: bodies.l1_key.len() as u32,
+        l2_key: bodies.l2_key.len() as u32,
+    }
+}
+
+// The head, and each body into its own part of the output, by the writer of its kind: of parameters nothing is judged.
+#[tactic(auto, unfolding(crate::specs::Layout::bodies_of))]
+fn put(out: &mut [u8], head: Head, n: Bodies<u32>, bodies: Bodies<&[u8]>)
+    requires lengths { n ≡ given_lengths (given_in bodies) }
+    requires limit { end_at n ≤ 65535 }
+    requires room { end_at n ≤ length out.old }
+    ensures { out.new ≡ onto (envelope_bytes head (given_in bodies.entry)) out.old }
+{
+    let places = bodies_of(n);
+    put_head(&mut out[0..80], head, n);
+    text::put(&mut out[80..places.kdf_parameters.at], bodies.kdf);
+    copy_into(
+        &mut out[places.kdf_parameters.at..places.agreement.at],
+        bodies.kdf_parameters,
     );
-    put_names(&mut out[domain_at..l1_key_at], domain, forest);
-    put_keys(&mut out[l1_key_at..end], l1_key, l2_key);
+    text::put(
+        &mut out[places.agreement.at..places.agreement_parameters.at],
+        bodies.agreement,
+    );
+    copy_into(
+        &mut out[places.agreement_parameters.at..places.domain.at],
+        bodies.agreement_parameters,
+    );
+    text::put(&mut out[places.domain.at..places.forest.at], bodies.domain);
+    text::put(&mut out[places.forest.at..places.l1_key.at], bodies.forest);
+    keys::put(&mut out[places.l1_key.at..places.l2_key.at], bodies.l1_key);
+    keys::put(&mut out[places.l2_key.at..end_of(n)], bodies.l2_key);
 }
 
-fn put_head(dst: &mut [u8], head: Head, n: Lengths)
+fn put_head(dst: &mut [u8], head: Head, n: Bodies<u32>)
     requires { 80 ≤ length dst.old }
     ensures { dst.new ≡ onto (joined (head_pieces head n)) dst.old }
 {
@@ -505,41 +443,4 @@ fn put_head(dst: &mut [u8], head: Head, n: Lengths)
     put_le32s(&mut dst[0..24], &front);
     root.put(&mut dst[24..40]);
     put_le32s(&mut dst[40..80], &lengths);
-}
-
-// An algorithm: its name, which is a text, and its parameters, each into its own part.
-fn put_algorithm(dst: &mut [u8], name: &[u8], parameters: &[u8])
-    requires { length name.now + length parameters.now ≤ length dst.old }
-    ensures { dst.new ≡ onto (name.now ++ parameters.now) dst.old }
-{
-    let end = name.len() + parameters.len();
-    text::put(&mut dst[0..name.len()], name);
-    put_parameters(&mut dst[name.len()..end], parameters);
-}
-
-// Parameters, of which nothing is judged, written into the part of the output where they stand.
-fn put_parameters(dst: &mut [u8], parameters: &[u8])
-    ensures { dst.new ≡ onto parameters.now dst.old }
-{
-    copy_into(dst, parameters);
-}
-
-// The names of the domain and the forest, each into its own part.
-fn put_names(dst: &mut [u8], domain: &[u8], forest: &[u8])
-    requires { length domain.now + length forest.now ≤ length dst.old }
-    ensures { dst.new ≡ onto (domain.now ++ forest.now) dst.old }
-{
-    let end = domain.len() + forest.len();
-    text::put(&mut dst[0..domain.len()], domain);
-    text::put(&mut dst[domain.len()..end], forest);
-}
-
-// The two keys, each into its own part.
-fn put_keys(dst: &mut [u8], l1: &[u8], l2: &[u8])
-    requires { length l1.now + length l2.now ≤ length dst.old }
-    ensures { dst.new ≡ onto (l1.now ++ l2.now) dst.old }
-{
-    let end = l1.len() + l2.len();
-    keys::put(&mut dst[0..l1.len()], l1);
-    keys::put(&mut dst[l1.len()..end], l2);
 }

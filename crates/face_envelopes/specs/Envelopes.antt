@@ -1,7 +1,8 @@
 -- Document 01, "Group Key Envelope", as C has its answer, and the head as C hands it in.
-use Rattle.envelope.specs.declared.Head.{Head}
 use Rattle.std.specs.Prelude.{Result}
 use Rattle.refusal.specs.declared.Refusal.{Refusal}
+use Rattle.wire.specs.declared.Span.{Span}
+use Rattle.envelope.specs.declared.Head.{Head}
 use Rattle.envelope.specs.declared.Envelope.{Envelope}
 use Rattle.envelope.specs.declared.Bodies.{Bodies}
 use Rattle.envelope.specs.Layout.{is_public}
@@ -34,7 +35,7 @@ head_from h =
       public_length = h.public_length;
     }
 
-abbrev pub bodies_shown : Bodies → EnvelopeBodies
+abbrev pub bodies_shown : Bodies Span → EnvelopeBodies
 bodies_shown b =
     record {
       kdf = part_shown b.kdf;

@@ -6,26 +6,21 @@ ghost use Rattle.envelope.specs.Writing.{given, envelope_bytes, envelope_written
 ghost use Rattle.face.specs.Shapes.{written_answer};
 ghost use Rattle.face_envelopes.specs.Envelopes.{head_from, envelope_answer};
 
-use envelope::EnvelopeRead;
-use face::{WrittenAnswer, to_written};
-use face_envelopes::{EnvelopeAnswer, EnvelopeHead, envelope_answer, envelope_refused, head_from};
-use refusal::Outcome;
+use envelope::{Bodies, Head};
+use face::WrittenAnswer;
+use face_envelopes::{EnvelopeAnswer, EnvelopeHead};
 
-// 1, 2 and 4 are answered before a reader is called.
+// 1, 2 and 4 are answered before a reader is called, and each answer is laid out where it is told.
 #[unsafe(no_mangle)]
 pub extern "C" fn gw_envelope_read(s: &[u8]) -> EnvelopeAnswer
     ensures { result ≡ envelope_answer (envelope_of s.now) }
 {
     if let Err(refusal) = envelope::judge_head(s) {
-        return envelope_refused(refusal);
+        return EnvelopeAnswer::from(refusal);
     }
     match envelope::read(s) {
-        Ok(envelope) => {
-            return envelope_answer(envelope);
-        }
-        Err(refusal) => {
-            return envelope_refused(refusal);
-        }
+        Ok(envelope) => return EnvelopeAnswer::from(envelope),
+        Err(refusal) => return EnvelopeAnswer::from(refusal),
     }
 }
 
@@ -45,9 +40,7 @@ pub extern "C" fn gw_envelope_write(
     ensures answer { result ≡ written_answer (envelope_written (head_from head) (given kdf.now kdf_parameters.now agreement.now agreement_parameters.now domain.now forest.now l1_key.now l2_key.now) (length out.old)) }
     ensures output { out.new ≡ output_of (envelope_written (head_from head) (given kdf.now kdf_parameters.now agreement.now agreement_parameters.now domain.now forest.now l1_key.now l2_key.now) (length out.old)) (envelope_bytes (head_from head) (given kdf.now kdf_parameters.now agreement.now agreement_parameters.now domain.now forest.now l1_key.now l2_key.now)) out.old }
 {
-    to_written(envelope::write(
-        out,
-        head_from(head),
+    let bodies = Bodies {
         kdf,
         kdf_parameters,
         agreement,
@@ -56,5 +49,6 @@ pub extern "C" fn gw_envelope_write(
         forest,
         l1_key,
         l2_key,
-    ))
+    };
+    WrittenAnswer::from(envelope::write(out, Head::from(head), bodies))
 }

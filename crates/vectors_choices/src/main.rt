@@ -7,7 +7,7 @@ use gkid::{Gkid, L0, L1, L2};
 use line::{Line, Text};
 use refusal::Refusal;
 use rootid::RootId;
-use serving::{Choice, SeedKey};
+use serving::{Choice, SeedKey, Serving};
 use std::io;
 use wire::Span;
 
@@ -382,26 +382,26 @@ fn chosen<'a>(line: &mut Line, wanted: Gkid, cached: &'a [u8], fetched: &'a [u8]
     line.number(wire::le32_at(part, 0) as u64);
 }
 
-fn answer(line: &mut Line, choice: Choice) {
+fn answer(line: &mut Line, choice: Result<Choice, Refusal>) {
     match choice {
-        Choice::Cached(key, span) => {
+        Ok(Choice::Cached(serving)) => {
             line.text(b"CACHED ");
-            by(line, key, span);
+            by(line, serving);
         }
-        Choice::Fetched(key, span) => {
+        Ok(Choice::Fetched(serving)) => {
             line.text(b"FETCHED ");
-            by(line, key, span);
+            by(line, serving);
         }
-        Choice::Neither => words::refused(line, Refusal::NeitherServes),
+        Err(refusal) => words::refused(line, refusal),
     }
 }
 
-fn by(line: &mut Line, key: SeedKey, span: Span) {
-    match key {
+fn by(line: &mut Line, serving: Serving) {
+    match serving.key {
         SeedKey::L1 => line.text(b"L1 "),
         SeedKey::L2 => line.text(b"L2 "),
     }
-    words::span(line, span);
+    words::span(line, serving.place);
 }
 
 // A finished line, on standard output.

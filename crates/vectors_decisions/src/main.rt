@@ -2,11 +2,11 @@
 // too. Each case is a line: its name, then what the library answers. The file `stdout` beside src/ holds what the paper says.
 #![tactic(auto)]
 
-use getkey::{Answer, Rights};
+use getkey::{Granted, Rights};
 use gkid::{FileTime, Gkid};
 use keys::Form;
 use line::{Line, Text};
-use request::{Request, Root};
+use request::Request;
 use rootid::RootId;
 use std::io;
 
@@ -37,45 +37,35 @@ fn bench(rt: &impl Print) -> io::Result<()> {
         root(1),
         [4, 2, 2],
     )?;
-    both_ways(rt, b"decision: no root, named: ", Root::None, [4, 0, 2])?;
-    both_ways(rt, b"decision: next after now: ", Root::None, [5, 3, 8])?;
-    both_ways(rt, b"decision: L1 of -1 alone: ", Root::None, [0, -1, 0])?;
-    both_ways(rt, b"decision: L2 of 32: ", Root::None, [0, 0, 32])
+    both_ways(rt, b"decision: no root, named: ", None, [4, 0, 2])?;
+    both_ways(rt, b"decision: next after now: ", None, [5, 3, 8])?;
+    both_ways(rt, b"decision: L1 of -1 alone: ", None, [0, -1, 0])?;
+    both_ways(rt, b"decision: L2 of 32: ", None, [0, 0, 32])
 }
 
 fn granted(rt: &impl Print) -> io::Result<()> {
-    asked(rt, b"decision: no root, latest: ", Root::None, LATEST)?;
+    asked(rt, b"decision: no root, latest: ", None, LATEST)?;
     asked(rt, b"decision: root given, latest: ", root(1), LATEST)?;
-    asked(rt, b"decision: no root, now: ", Root::None, [5, 3, 7])?;
+    asked(rt, b"decision: no root, now: ", None, [5, 3, 7])?;
     asked(rt, b"decision: root given, now: ", root(1), [5, 3, 7])?;
-    asked(rt, b"decision: no root, L2 of 31: ", Root::None, [5, 2, 31])?;
-    asked(rt, b"decision: no root, L1 of 1: ", Root::None, [5, 1, 0])?;
+    asked(rt, b"decision: no root, L2 of 31: ", None, [5, 2, 31])?;
+    asked(rt, b"decision: no root, L1 of 1: ", None, [5, 1, 0])?;
     asked(rt, b"decision: another root, latest: ", root(2), LATEST)?;
     asked(rt, b"decision: another root, named: ", root(2), [5, 0, 0])
 }
 
 fn indices(rt: &impl Print) -> io::Result<()> {
-    asked(rt, b"decision: L0 of -2: ", Root::None, [-2, -2, -2])?;
-    asked(
-        rt,
-        b"decision: least L0: ",
-        Root::None,
-        [-2_147_483_648, 0, 0],
-    )?;
-    asked(
-        rt,
-        b"decision: greatest L0: ",
-        Root::None,
-        [2_147_483_647, 0, 0],
-    )?;
-    asked(rt, b"decision: L1 of 32: ", Root::None, [0, 32, 0])?;
-    asked(rt, b"decision: L1 of -2: ", Root::None, [0, -2, 0])?;
-    asked(rt, b"decision: L2 of -2: ", Root::None, [0, 0, -2])?;
-    asked(rt, b"decision: L0 of -1 alone: ", Root::None, [-1, 0, 0])?;
-    asked(rt, b"decision: L2 of -1 alone: ", Root::None, [0, 0, -1])?;
-    asked(rt, b"decision: L0 and L1 of -1: ", Root::None, [-1, -1, 0])?;
-    asked(rt, b"decision: L1 later, L0 now's: ", Root::None, [5, 4, 0])?;
-    asked(rt, b"decision: L0 later: ", Root::None, [6, 0, 0])
+    asked(rt, b"decision: L0 of -2: ", None, [-2, -2, -2])?;
+    asked(rt, b"decision: least L0: ", None, [-2_147_483_648, 0, 0])?;
+    asked(rt, b"decision: greatest L0: ", None, [2_147_483_647, 0, 0])?;
+    asked(rt, b"decision: L1 of 32: ", None, [0, 32, 0])?;
+    asked(rt, b"decision: L1 of -2: ", None, [0, -2, 0])?;
+    asked(rt, b"decision: L2 of -2: ", None, [0, 0, -2])?;
+    asked(rt, b"decision: L0 of -1 alone: ", None, [-1, 0, 0])?;
+    asked(rt, b"decision: L2 of -1 alone: ", None, [0, 0, -1])?;
+    asked(rt, b"decision: L0 and L1 of -1: ", None, [-1, -1, 0])?;
+    asked(rt, b"decision: L1 later, L0 now's: ", None, [5, 4, 0])?;
+    asked(rt, b"decision: L0 later: ", None, [6, 0, 0])
 }
 
 fn rights(rt: &impl Print) -> io::Result<()> {
@@ -83,7 +73,7 @@ fn rights(rt: &impl Print) -> io::Result<()> {
         rt,
         b"decision: public, latest: ",
         Rights::Public,
-        Root::None,
+        None,
         LATEST,
     )?;
     allowed(
@@ -97,7 +87,7 @@ fn rights(rt: &impl Print) -> io::Result<()> {
         rt,
         b"decision: public, named: ",
         Rights::Public,
-        Root::None,
+        None,
         [4, 0, 2],
     )?;
     allowed(
@@ -111,7 +101,7 @@ fn rights(rt: &impl Print) -> io::Result<()> {
         rt,
         b"decision: no rights, latest: ",
         Rights::None,
-        Root::None,
+        None,
         LATEST,
     )
 }
@@ -122,7 +112,7 @@ fn tables(rt: &impl Print) -> io::Result<()> {
         rt,
         b"decision: no row, latest: ",
         Rights::Seed,
-        Root::None,
+        None,
         LATEST,
         empty,
     )?;
@@ -130,7 +120,7 @@ fn tables(rt: &impl Print) -> io::Result<()> {
         rt,
         b"decision: no row, public: ",
         Rights::Public,
-        Root::None,
+        None,
         LATEST,
         empty,
     )?;
@@ -146,7 +136,7 @@ fn tables(rt: &impl Print) -> io::Result<()> {
         rt,
         b"decision: no row, named: ",
         Rights::Seed,
-        Root::None,
+        None,
         [4, 0, 2],
         empty,
     )?;
@@ -172,7 +162,7 @@ fn tables(rt: &impl Print) -> io::Result<()> {
         rt,
         b"decision: half a row: ",
         Rights::Seed,
-        Root::None,
+        None,
         LATEST,
         cases::first(&table, 16),
     )?;
@@ -180,7 +170,7 @@ fn tables(rt: &impl Print) -> io::Result<()> {
         rt,
         b"decision: a row and a byte: ",
         Rights::Seed,
-        Root::None,
+        None,
         LATEST,
         cases::first(&table, 33),
     )
@@ -213,7 +203,7 @@ fn ties(rt: &impl Print) -> io::Result<()> {
         rt,
         b"decision: first of the highest use-start: ",
         Rights::Seed,
-        Root::None,
+        None,
         LATEST,
         &table,
     )?;
@@ -221,7 +211,7 @@ fn ties(rt: &impl Print) -> io::Result<()> {
         rt,
         b"decision: first of the highest create time: ",
         Rights::Seed,
-        Root::None,
+        None,
         [4, 0, 2],
         &table,
     )?;
@@ -229,7 +219,7 @@ fn ties(rt: &impl Print) -> io::Result<()> {
         rt,
         b"decision: none in use at 0: ",
         Rights::Seed,
-        Root::None,
+        None,
         [0, 0, 0],
         &table,
     )
@@ -244,7 +234,7 @@ fn starts(rt: &impl Print) -> io::Result<()> {
         rt,
         b"decision: in use from the start on: ",
         Rights::Seed,
-        Root::None,
+        None,
         [4, 0, 2],
         &table,
     )?;
@@ -252,7 +242,7 @@ fn starts(rt: &impl Print) -> io::Result<()> {
         rt,
         b"decision: in use a tick after the start: ",
         Rights::Seed,
-        Root::None,
+        None,
         [4, 0, 2],
         cases::first(&table, 32),
     )?;
@@ -260,7 +250,7 @@ fn starts(rt: &impl Print) -> io::Result<()> {
         rt,
         b"decision: both in use, highest create time: ",
         Rights::Seed,
-        Root::None,
+        None,
         [4, 0, 3],
         &table,
     )?;
@@ -269,7 +259,7 @@ fn starts(rt: &impl Print) -> io::Result<()> {
         rt,
         b"decision: latest, use-start to come: ",
         Rights::Seed,
-        Root::None,
+        None,
         LATEST,
         &table,
     )?;
@@ -313,7 +303,7 @@ fn least() -> [u8; 20] {
 fn described(rt: &impl Print, name: &[u8], descriptor: &[u8], indices: [i32; 3]) -> io::Result<()> {
     let mut table = [0; 32];
     row(&mut table, 0, 1, 3, 4);
-    let asked = request(Root::None, indices);
+    let asked = request(None, indices);
     let answer = getkey::decide(descriptor, Rights::Seed, asked, NOW, &table);
     let mut line = Line::new();
     line.text(name);
@@ -327,7 +317,7 @@ fn orders(rt: &impl Print) -> io::Result<()> {
     let refused = getkey::decide_by_verdict(
         false,
         Rights::Seed,
-        request(Root::None, [0, 0, 32]),
+        request(None, [0, 0, 32]),
         NOW,
         &short,
     );
@@ -335,19 +325,14 @@ fn orders(rt: &impl Print) -> io::Result<()> {
     line.text(b"decision: 16 before 14, by verdict: ");
     decided(&mut line, refused);
     print(rt, line)?;
-    asked(rt, b"decision: 14 before 15: ", Root::None, [0, -1, 32])?;
-    asked(
-        rt,
-        b"decision: 14 before 15, L0 of -2: ",
-        Root::None,
-        [-2, -1, 0],
-    )?;
-    asked(rt, b"decision: 15 before 17: ", Root::None, [6, -1, 0])?;
+    asked(rt, b"decision: 14 before 15: ", None, [0, -1, 32])?;
+    asked(rt, b"decision: 14 before 15, L0 of -2: ", None, [-2, -1, 0])?;
+    asked(rt, b"decision: 15 before 17: ", None, [6, -1, 0])?;
     allowed(
         rt,
         b"decision: 17 before 18: ",
         Rights::None,
-        Root::None,
+        None,
         [5, 3, 8],
     )?;
     answer(
@@ -368,11 +353,11 @@ fn orders(rt: &impl Print) -> io::Result<()> {
     )
 }
 
-fn root(low: u64) -> Root {
-    Root::Given(RootId { high: 0, low })
+fn root(low: u64) -> Option<RootId> {
+    Some(RootId { high: 0, low })
 }
 
-fn request(root: Root, indices: [i32; 3]) -> Request {
+fn request(root: Option<RootId>, indices: [i32; 3]) -> Request {
     Request {
         root,
         l0: indices[0],
@@ -413,7 +398,12 @@ fn put_time(dst: &mut [u8], time: u64) {
 }
 
 // With seed rights, and one row that suits: by descriptor, then by verdict.
-fn both_ways(rt: &impl Print, name: &[u8], root: Root, indices: [i32; 3]) -> io::Result<()> {
+fn both_ways(
+    rt: &impl Print,
+    name: &[u8],
+    root: Option<RootId>,
+    indices: [i32; 3],
+) -> io::Result<()> {
     asked(rt, name, root, indices)?;
     let mut table = [0; 32];
     row(&mut table, 0, 1, 3, 4);
@@ -426,7 +416,7 @@ fn both_ways(rt: &impl Print, name: &[u8], root: Root, indices: [i32; 3]) -> io:
 }
 
 // With seed rights, and one row that suits.
-fn asked(rt: &impl Print, name: &[u8], root: Root, indices: [i32; 3]) -> io::Result<()> {
+fn asked(rt: &impl Print, name: &[u8], root: Option<RootId>, indices: [i32; 3]) -> io::Result<()> {
     allowed(rt, name, Rights::Seed, root, indices)
 }
 
@@ -435,7 +425,7 @@ fn allowed(
     rt: &impl Print,
     name: &[u8],
     rights: Rights,
-    root: Root,
+    root: Option<RootId>,
     indices: [i32; 3],
 ) -> io::Result<()> {
     let mut table = [0; 32];
@@ -447,7 +437,7 @@ fn answer(
     rt: &impl Print,
     name: &[u8],
     rights: Rights,
-    root: Root,
+    root: Option<RootId>,
     indices: [i32; 3],
     table: &[u8],
 ) -> io::Result<()> {
@@ -460,18 +450,18 @@ fn answer(
 }
 
 // The row or CREATE, or the refusal.
-fn decided(line: &mut Line, answer: Answer) {
-    match answer {
-        Answer::Granted { at, form, row } => {
-            granted_form(line, at, form);
+fn decided(line: &mut Line, answer: Result<Granted, Refusal>) {
+    let granted = match answer {
+        Ok(granted) => granted,
+        Err(refusal) => return words::refused(line, refusal),
+    };
+    granted_form(line, granted.at, granted.form);
+    match granted.row {
+        Some(row) => {
             line.text(b" ROW ");
             line.number(row as u64);
         }
-        Answer::Create { at, form } => {
-            granted_form(line, at, form);
-            line.text(b" CREATE");
-        }
-        Answer::Refused(refusal) => words::refused(line, refusal),
+        None => line.text(b" CREATE"),
     }
 }
 
@@ -481,7 +471,11 @@ fn granted_form(line: &mut Line, at: Gkid, form: Form) {
     line.text(b" ");
     words::form(line, form);
     line.text(b" ");
-    line.number(reach::form_reach(form, at).total() as u64);
+    let total = match reach::form_reach(form, at) {
+        Ok(reach) => reach.total(),
+        Err(_) => 0,
+    };
+    line.number(total as u64);
 }
 
 // A finished line, on standard output.

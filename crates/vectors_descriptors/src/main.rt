@@ -5,7 +5,7 @@
 mod items;
 mod places;
 
-use descriptor::Finding;
+use descriptor::Part;
 use input::Input;
 use line::{Line, Text};
 use std::io;
@@ -90,14 +90,14 @@ fn told(rt: &impl Print, name: &[u8], bytes: &[u8]) -> io::Result<()> {
     print(rt, line)
 }
 
-fn found(line: &mut Line, finding: Finding) {
+fn found(line: &mut Line, finding: Result<(), Part>) {
     match finding {
-        Finding::Sound => line.text(b"SOUND"),
-        Finding::Head => line.text(b"HEAD"),
-        Finding::Owner => line.text(b"OWNER"),
-        Finding::Group => line.text(b"GROUP"),
-        Finding::Sacl => line.text(b"SACL"),
-        Finding::Dacl => line.text(b"DACL"),
+        Ok(()) => line.text(b"SOUND"),
+        Err(Part::Head) => line.text(b"HEAD"),
+        Err(Part::Owner) => line.text(b"OWNER"),
+        Err(Part::Group) => line.text(b"GROUP"),
+        Err(Part::Sacl) => line.text(b"SACL"),
+        Err(Part::Dacl) => line.text(b"DACL"),
     }
 }
 

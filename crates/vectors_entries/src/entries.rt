@@ -1,6 +1,6 @@
 // Entries read.
 use crate::print;
-use keyentry::{Algorithm, Entry, EntryRead};
+use keyentry::{Algorithm, Entry};
 use line::{Line, Text};
 use std::io;
 

@@ -2,7 +2,7 @@
 use crate::{entries, print};
 use keyentry::EntryPart;
 use keylist::walk::Walk;
-use keylist::{ListRead, Place, Step};
+use keylist::{Found, ListRefusal, Place};
 use line::{Line, Text};
 use refusal::Refusal;
 use std::io;
@@ -147,19 +147,19 @@ fn list(
 
 fn judged(line: &mut Line, list: &[u8]) {
     match keylist::judge(list) {
-        ListRead::Count(n) => {
+        Ok(n) => {
             line.text(b"COUNT ");
             line.number(n as u64);
         }
-        ListRead::Refused(refusal, index) => refused(line, refusal, index),
+        Err(told) => refused(line, told),
     }
 }
 
 // A refusal, and the index of the entry that it is given for.
-fn refused(line: &mut Line, refusal: Refusal, index: u32) {
-    words::refused(line, refusal);
+fn refused(line: &mut Line, told: ListRefusal) {
+    words::refused(line, told.refusal);
     line.text(b" INDEX ");
-    line.number(index as u64);
+    line.number(told.index as u64);
 }
 
 fn walks(rt: &impl Print) -> io::Result<()> {
@@ -214,10 +214,10 @@ fn hold(rt: &impl Print, name: &[u8], len: usize, count: u32, second: [u32; 5]) 
 // What one walk answers when it is asked four times.
 #[derive(Clone, Copy)]
 struct Asked {
-    one: Step,
-    two: Step,
-    three: Step,
-    four: Step,
+    one: Result<Option<Found>, ListRefusal>,
+    two: Result<Option<Found>, ListRefusal>,
+    three: Result<Option<Found>, ListRefusal>,
+    four: Result<Option<Found>, ListRefusal>,
 }
 
 fn ask(list: &[u8]) -> Asked {
@@ -241,9 +241,9 @@ fn told(line: &mut Line, asked: Asked) {
     }
 }
 
-fn found(line: &mut Line, step: Step) {
+fn found(line: &mut Line, step: Result<Option<Found>, ListRefusal>) {
     match step {
-        Step::Entry(found) => {
+        Ok(Some(found)) => {
             let entry = found.entry;
             line.text(b"ENTRY ");
             line.number(found.index as u64);
@@ -252,8 +252,8 @@ fn found(line: &mut Line, step: Step) {
             line.text(b" ");
             entries::shown(line, entry);
         }
-        Step::End => line.text(b"END"),
-        Step::Refused(refusal, index) => refused(line, refusal, index),
+        Ok(None) => line.text(b"END"),
+        Err(told) => refused(line, told),
     }
 }
 

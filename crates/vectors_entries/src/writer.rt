@@ -3,7 +3,6 @@ use crate::{entries, print};
 use cases::FILL;
 use keyentry::EntryPart;
 use line::{Line, Text};
-use records::Written;
 use std::io;
 
 pub fn run(rt: &impl Print) -> io::Result<()> {
@@ -69,7 +68,7 @@ fn written(line: &mut Line, out: &mut [u8], room: usize, flags: u32, item: &[u8]
     if room <= out.len() {
         let answer = keyentry::write(&mut out[0..room], flags, item, fek);
         words::written(line, answer);
-        if let Written::Length(len) = answer {
+        if let Ok(len) = answer {
             line.text(b" ");
             read_back(line, cases::first(out, len), item, fek);
             return kept(line, out, len);

@@ -4,7 +4,6 @@ use crate::writer::{head_at, shown};
 use cases::FILL;
 use envelope::Head;
 use line::{Line, Text};
-use records::Written;
 use std::io;
 
 // A text: the first len of these bytes.
@@ -222,7 +221,7 @@ fn with_algorithms(
     domain: Spelt,
     forest: Spelt,
     l1_key: usize,
-) -> Written {
+) -> Result<usize, Refusal> {
     let first = kdf.bytes;
     let second = agreement.bytes;
     with_names(
@@ -244,7 +243,7 @@ fn with_names(
     domain: Spelt,
     forest: Spelt,
     l1_key: usize,
-) -> Written {
+) -> Result<usize, Refusal> {
     let third = domain.bytes;
     let fourth = forest.bytes;
     with_key(
@@ -266,7 +265,7 @@ fn with_key(
     domain: &[u8],
     forest: &[u8],
     l1_key: usize,
-) -> Written {
+) -> Result<usize, Refusal> {
     let zeros = [0; 64];
     let none = cases::first(&zeros, 0);
     let key = cases::first(&zeros, l1_key);

@@ -2,7 +2,7 @@
 // implementation made (sample data of the test suite of Samba 4.22), which stands on standard input.
 use crate::print;
 use cases::MARK;
-use envelope::{Bodies, EnvelopePart, EnvelopeRead, Head};
+use envelope::{Bodies, EnvelopePart, Head};
 use input::Input;
 use line::{Line, Text};
 use std::io;
@@ -79,7 +79,7 @@ fn view(rt: &impl Print, s: &[u8]) -> io::Result<()> {
     let mut line = Line::new();
     line.text(b"envelope: all values: ");
     match envelope::read(s) {
-        EnvelopeRead::Accepted(envelope) => {
+        Ok(envelope) => {
             let head = envelope.head;
             let bodies = envelope.bodies;
             show_head(&mut line, head);
@@ -87,7 +87,7 @@ fn view(rt: &impl Print, s: &[u8]) -> io::Result<()> {
             print(rt, line)?;
             rewritten(rt, head, s)
         }
-        EnvelopeRead::Refused(refusal) => {
+        Err(refusal) => {
             words::refused(&mut line, refusal);
             print(rt, line)
         }

@@ -4,7 +4,6 @@ use cases::FILL;
 use envelope::Head;
 use gkid::{Gkid, L0, L1, L2};
 use line::{Line, Text};
-use records::Written;
 use rootid::RootId;
 use std::io;
 
@@ -209,9 +208,9 @@ fn written(
 }
 
 // The answer; the record that was written, as it reads back; and whether the output behind it, or all of it on a refusal, is as it was.
-pub fn shown(line: &mut Line, answer: Written, out: &[u8]) {
+pub fn shown(line: &mut Line, answer: Result<usize, Refusal>, out: &[u8]) {
     words::written(line, answer);
-    if let Written::Length(len) = answer {
+    if let Ok(len) = answer {
         line.text(b" ");
         envline::shown(line, cases::first(out, len));
         return kept(line, out, len);
@@ -226,7 +225,7 @@ fn write_into(
     kdf_parameters: &[u8],
     l1_key: &[u8],
     l2_key: &[u8],
-) -> Written {
+) -> Result<usize, Refusal> {
     let empty = [0; 2];
     let text = &empty[..];
     let none = cases::first(text, 0);

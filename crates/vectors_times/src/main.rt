@@ -2,7 +2,7 @@
 // the library answers. The file `stdout` beside src/ holds what the paper says.
 #![tactic(auto)]
 
-use gkid::{FileTime, Gkid, L0, L1, L2, Older, Start};
+use gkid::{FileTime, Gkid, L0, L1, L2};
 use line::{Line, Text};
 use std::io;
 
@@ -135,8 +135,8 @@ fn start(rt: &impl Print, name: &[u8], l0: u32, l1: u32, l2: u32) -> io::Result<
     let mut line = Line::new();
     line.text(name);
     match gkid(l0, l1, l2).start() {
-        Start::At(time) => line.number(time.0),
-        Start::Refused(refusal) => words::refused(&mut line, refusal),
+        Ok(time) => line.number(time.0),
+        Err(refusal) => words::refused(&mut line, refusal),
     }
     print(rt, line)
 }
@@ -145,9 +145,9 @@ fn older(rt: &impl Print, name: &[u8], l0: u32, l1: u32, l2: u32) -> io::Result<
     let mut line = Line::new();
     line.text(name);
     match gkid(l0, l1, l2).older() {
-        Older::Is(i) => words::identifier(&mut line, i),
-        Older::None => line.text(b"NONE"),
-        Older::Refused(refusal) => words::refused(&mut line, refusal),
+        Ok(Some(i)) => words::identifier(&mut line, i),
+        Ok(None) => line.text(b"NONE"),
+        Err(refusal) => words::refused(&mut line, refusal),
     }
     print(rt, line)
 }

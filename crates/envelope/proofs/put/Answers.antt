@@ -1,32 +1,44 @@
--- `put`: the head, then the bodies two by two, each pair into the part that it is lent.
-use Rattle.lemmas.proofs.Basics.{ℕ, ◌+◌, ◌≤◌, arith, [], refl, sym, ap, ◌∙◌}
+-- `put`: the head, then each body into the part that it is lent.
+use Rattle.lemmas.proofs.Basics.{ℕ, ◌+◌, ◌-◌, ◌≤◌, arith, List, [], ◌++◌, ◌≡◌, refl, sym, ap, ◌∙◌, length, length-append}
 use native.Mathlib.Nat.{zero-add}
+use borrow.Rule.Slice.PartMut.{mid_of, put_mid}
 use Rattle.wire.specs.Parts.{onto, joined}
-use Rattle.wire.proofs.Writing.{lent, lent_pair, pair-room, onto-none}
-use Rattle.envelope.specs.Writing.{given, given_lengths, head_pieces}
+use Rattle.wire.proofs.Writing.{lent, onto-none}
+use Rattle.envelope.specs.Layout.{bodies_of, end_at}
+use Rattle.envelope.specs.Writing.{given_in, given_lengths, envelope_length, head_pieces}
 use Rattle.envelope.proofs.Writing.{bytes_are, length-head}
 use Rattle.envelope.proofs.put.Goals as goal
 
-without : (n a b s : ℕ) → n + a + b ≤ s → n ≤ s
-without n a b s h = omega arith
-
-pub put_names-requires : goal.put_names-requires
-put_names-requires c = rw c.put_names-arg-1.given.2 (pair-room _ _ _)
-
-pub put_keys-requires : goal.put_keys-requires
-put_keys-requires c = rw c.put_keys-arg-1.given.2 (pair-room _ _ _)
+-- one body more, put where the record so far ends
+next : (done body s : List ℕ) (a e : ℕ) {now last : List ℕ} → (now ≡ onto done s) × (length done ≡ a) → a + length body ≡ e → e ≤ length s
+    → last ≡ onto body (mid_of a (e - a) now) → (put_mid a (e - a) now last ≡ onto (done ++ body) s) × (length (done ++ body) ≡ e)
+next done body s a e so_far size room put =
+    (lent done body s a e so_far.0 so_far.1 size room put, length-append done body ∙ ap (λ n. n + length body) so_far.1 ∙ size)
 
 pub returns : goal.returns
+unfolding bodies_of
 returns c =
-    let g = given c.args.kdf.now c.args.kdf_parameters.now c.args.agreement.now c.args.agreement_parameters.now c.args.domain.now c.args.forest.now c.args.l1_key.now c.args.l2_key.now in
+    let g = given_in c.args.bodies in
+    let out = c.args.out.now in
+    let n = c.requires.lengths in
     let head = joined (head_pieces c.args.head (given_lengths g)) in
-    let fits3 = without _ _ _ _ c.requires.1 in
-    let fits2 = without _ _ _ _ fits3 in
-    let fits1 = without _ _ _ _ fits2 in
-    let size = length-head c.args.head (given_lengths g) in
-    let r0 = lent [] head c.args.out.now 0 80 (sym (onto-none c.args.out.now)) refl (zero-add _ ∙ size) (without _ _ _ _ fits1) c.put_head.ensures in
-    let r1 = lent_pair head g.kdf g.kdf_parameters c.args.out.now 80 r0 size fits1 c.put_algorithm.ensures in
-    let r2 = lent_pair _ g.agreement g.agreement_parameters c.args.out.now _ r1.0 r1.1 fits2 c.put_algorithm-2.ensures in
-    let r3 = lent_pair _ g.domain g.forest c.args.out.now _ r2.0 r2.1 fits3 c.put_names.ensures in
-    let r4 = lent_pair _ g.l1_key g.l2_key c.args.out.now _ r3.0 r3.1 c.requires.1 c.put_keys.ensures in
-    r4.0 ∙ ap (λ bs. onto bs c.args.out.now) (sym (bytes_are c.args.head g))
+    let at = c.bodies_of-places.ensures ∙ ap bodies_of n in
+    let end : c.end_of.result ≡ envelope_length g = c.end_of.ensures ∙ ap end_at n in
+    let room : envelope_length g ≤ length out = rw n at c.requires.room in
+    let a1 = ap (λ b. b.kdf_parameters.at) at in
+    let a2 = ap (λ b. b.agreement.at) at in
+    let a3 = ap (λ b. b.agreement_parameters.at) at in
+    let a4 = ap (λ b. b.domain.at) at in
+    let a5 = ap (λ b. b.forest.at) at in
+    let a6 = ap (λ b. b.l1_key.at) at in
+    let a7 = ap (λ b. b.l2_key.at) at in
+    let r0 = next [] head out 0 80 (sym (onto-none out), refl) (zero-add _ ∙ length-head c.args.head (given_lengths g)) (omega (arith, room)) (rw n at c.put_head.ensures) in
+    let r1 = next _ g.kdf out 80 c.bodies_of-places.result.kdf_parameters.at r0 (omega (arith, a1)) (omega (arith, a1, room)) c.put.ensures in
+    let r2 = next _ g.kdf_parameters out _ c.bodies_of-places.result.agreement.at r1 (omega (arith, a1, a2)) (omega (arith, a2, room)) c.copy_into.ensures in
+    let r3 = next _ g.agreement out _ c.bodies_of-places.result.agreement_parameters.at r2 (omega (arith, a2, a3)) (omega (arith, a3, room)) c.put-2.ensures in
+    let r4 = next _ g.agreement_parameters out _ c.bodies_of-places.result.domain.at r3 (omega (arith, a3, a4)) (omega (arith, a4, room)) c.copy_into-2.ensures in
+    let r5 = next _ g.domain out _ c.bodies_of-places.result.forest.at r4 (omega (arith, a4, a5)) (omega (arith, a5, room)) c.put-3.ensures in
+    let r6 = next _ g.forest out _ c.bodies_of-places.result.l1_key.at r5 (omega (arith, a5, a6)) (omega (arith, a6, room)) c.put-4.ensures in
+    let r7 = next _ g.l1_key out _ c.bodies_of-places.result.l2_key.at r6 (omega (arith, a6, a7)) (omega (arith, a7, room)) c.put-5.ensures in
+    let r8 = next _ g.l2_key out _ c.end_of.result r7 (omega (arith, a7, end)) (omega (arith, end, room)) c.put-6.ensures in
+    r8.0 ∙ ap (λ bs. onto bs out) (sym (bytes_are c.args.head g))

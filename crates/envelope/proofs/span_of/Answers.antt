@@ -4,7 +4,7 @@ use Rattle.envelope.proofs.span_of.Goals as goal
 
 pub returns-in-Ok : goal.returns-in-Ok
 unfolding span_of
-returns-in-Ok c = rw c.in-Ok.is c.span.ensures
+returns-in-Ok c = rw c.in-Ok.is c.body.ensures
 
 pub returns-in-Err : goal.returns-in-Err
 unfolding span_of

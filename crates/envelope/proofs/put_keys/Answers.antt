@@ -1,7 +1,0 @@
--- `put_keys`: each body into the part that it is lent.
-use Rattle.wire.proofs.Writing.{lent_two}
-use Rattle.envelope.proofs.put_keys.Goals as goal
-
-pub returns : goal.returns
-returns c =
-    lent_two _ _ _ c.requires c.put.ensures c.put-2.ensures
