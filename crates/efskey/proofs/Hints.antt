@@ -6,8 +6,9 @@ use Rattle.refusal.specs.declared.Refusal.{Refusal}
 use Rattle.refusal.specs.declared.Refusal.TheVariants.{MalformedSid}
 use Rattle.refusal.specs.Outcome.{Outcome}
 use Rattle.refusal.specs.Chain.{◌⇒◌, first_of}
+use Rattle.refusal.proofs.Chains.{pass_accepted, first_here}
 use Rattle.efskey.specs.declared.SidHint.{SidHint}
-use Rattle.lemmas.proofs.Cases.{by_cases, both_true}
+use Rattle.lemmas.proofs.Cases.{by_cases, cond_cases, both_true}
 use Rattle.lemmas.proofs.Counting.{every_all, all_every}
 use Rattle.sid.specs.WellFormed as sid
 use Rattle.efskey.specs.declared.SidHint.TheVariants.{None, Sid, NoHint}
@@ -38,15 +39,26 @@ hint_span_lem offset area = told (eqb offset 0) (is_no_hint area)
     told false true = refl
     told false false = refl
 
--- The check of the area, from what judging it answers.
+-- what an answer says of the area: what it holds passes the check and is the hint; what is malformed does not pass
+abbrev pub Says : ℕ → List ℕ → Result SidHint Refusal → Type 0
+Says offset area (Ok hint) = (sid_malformed (hint_of offset area) area ≡ false) × (hint ≡ hint_of offset area)
+Says offset area (Err r) = (sid_malformed (hint_of offset area) area ≡ true) × (r ≡ MalformedSid)
+
+pub area_says : (offset : ℕ) (area : List ℕ) → Says offset area (area_of offset area)
+unfolding area_of
+area_says offset area = cond_cases (Says offset area) (sid_malformed (hint_of offset area) area) (λ q. (q, refl)) (λ q. (q, refl))
+
+-- The area's check, from that answer.
 abbrev pub judged : Result SidHint Refusal → Outcome
 judged (Ok hint) = Ok tt
 judged (Err r) = Err r
 
+pub said-judged : (offset : ℕ) (area : List ℕ) (a : Result SidHint Refusal) → Says offset area a → first_of ((sid_malformed (hint_of offset area) area ⇒ MalformedSid) ∷ []) ≡ judged a
+said-judged offset area (Ok hint) said = pass_accepted _ (said.0, tt)
+said-judged offset area (Err r) said = rw said.1 (first_here _ _ [] said.0)
+
 pub area_judged : (offset : ℕ) (area : List ℕ) → first_of ((sid_malformed (hint_of offset area) area ⇒ MalformedSid) ∷ []) ≡ judged (area_of offset area)
-unfolding area_of first_of
-area_judged offset area =
-    elim (sid_malformed (hint_of offset area) area) as (λ m. cond m (Err MalformedSid) (Ok tt) ≡ judged (cond m (Err MalformedSid) (Ok (hint_of offset area)))) [ true ↦ refl | false ↦ refl ]
+area_judged offset area = said-judged offset area _ (area_says offset area)
 
 -- No bit is set of two numbers exactly where none is of either.
 pub or_zero : (a b : ℕ) → eqb (bit_or a b) 0 ≡ eqb a 0 && eqb b 0

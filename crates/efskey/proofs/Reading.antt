@@ -1,12 +1,11 @@
 -- Laws of the reader's answer.
-use Rattle.lemmas.proofs.Basics.{ℕ, ◌+◌, ◌-◌, ◌≤◌, arith, true, false, cond, not, List, ◌≡◌, refl, ap, ◌∙◌, ltb, eqb, length, ltb-false, eqb-true}
+use Rattle.lemmas.proofs.Basics.{ℕ, ◌+◌, ◌-◌, ◌≤◌, arith, false, not, List, ◌≡◌, refl, sym, ap, ◌∙◌, ltb, eqb, length, ltb-false, eqb-true}
 use Rattle.std.specs.Prelude.{Result, Ok, Err}
 use Rattle.lemmas.proofs.Cases.{cond_cases, or-false, not-false}
 use Rattle.refusal.specs.Outcome.{Outcome}
 use Rattle.refusal.specs.declared.Refusal.{Refusal}
-use Rattle.refusal.specs.declared.Refusal.TheVariants.{MalformedSid}
 use Rattle.refusal.specs.Chain.{first_of, unless_refused}
-use Rattle.refusal.proofs.Chains.{accepted_pass, pass_accepted, first_append, unless_zero}
+use Rattle.refusal.proofs.Chains.{accepted_pass, pass_accepted, unless_zero, stops, follows}
 use Rattle.wire.specs.declared.Span.{Span}
 use Rattle.wire.proofs.Parts.{length_part}
 use Rattle.efskey.specs.declared.SidHint.{SidHint}
@@ -15,27 +14,34 @@ use Rattle.efskey.specs.declared.EfsKeyPart.{EfsKeyPart}
 use Rattle.efskey.specs.declared.EfsKeyPart.TheVariants.{Sid, Certificate}
 use Rattle.efskey.specs.Layout.{length1, length2, sid_offset, reserved1, certificate_length, certificate_offset, lengths_disagree, certificate_misplaced, sid_misplaced, gap_without_sid, sid_area, sid_malformed, area_of, hint_in}
 use Rattle.efskey.specs.Reading.{head_checks, efs_key_checks, shown_with, shown, efs_key_of, efs_key_number, span_of, efs_key_span}
-use Rattle.efskey.proofs.Hints.{hint_span_lem}
+use Rattle.efskey.proofs.Hints.{hint_span_lem, Says, area_says, said-judged}
 
 -- the answer of an outcome
 abbrev pub answer : Outcome → EfsKey → Result EfsKey Refusal
 answer o key = unless_refused Err o (Ok key)
 
--- What an answer of the area is shown as.
+-- The answer from the outcome of the checks, and what is shown.
+pub efskey_judged : (s : List ℕ) {o : Outcome} {key : EfsKey} → o ≡ first_of (efs_key_checks s) → key ≡ shown s → efs_key_of s ≡ answer o key
+unfolding efs_key_of
+efskey_judged s judged is-shown = rw (judged, is-shown)
+
+-- The answer from the head's checks.
+pub head_refused : (s : List ℕ) (r : Refusal) → first_of (head_checks s) ≡ Err r → efs_key_of s ≡ Err r
+unfolding efs_key_checks unless_refused
+head_refused s r e = efskey_judged s (sym e ∙ stops (head_checks s) _ refl e) refl
+
+-- Behind them it is that of the area.
 abbrev pub shown_as : List ℕ → Result SidHint Refusal → Result EfsKey Refusal
 shown_as s (Ok sid) = Ok (shown_with s sid)
 shown_as s (Err r) = Err r
 
--- The answer from the head's checks, and behind them from the area.
-pub head_refused : (s : List ℕ) (r : Refusal) → first_of (head_checks s) ≡ Err r → efs_key_of s ≡ Err r
-unfolding efs_key_of efs_key_checks unless_refused
-head_refused s r e = rw (first_append (head_checks s), e)
-
 pub head_accepted : (s : List ℕ) → first_of (head_checks s) ≡ Ok tt → efs_key_of s ≡ shown_as s (area_of (sid_offset s) (sid_area s))
-unfolding efs_key_of efs_key_checks unless_refused area_of first_of
-head_accepted s e =
-    rw (first_append (head_checks s), e)
-    (elim (sid_malformed (hint_in s) (sid_area s)) as (λ m. answer (cond m (Err MalformedSid) (Ok tt)) (shown s) ≡ shown_as s (cond m (Err MalformedSid) (Ok (hint_in s)))) [ true ↦ refl | false ↦ refl ])
+unfolding efs_key_checks unless_refused
+head_accepted s e = told _ (area_says (sid_offset s) (sid_area s))
+  where
+    told : (a : Result SidHint Refusal) → Says (sid_offset s) (sid_area s) a → efs_key_of s ≡ shown_as s a
+    told (Ok hint) said = efskey_judged s (follows (head_checks s) _ refl e (sym (said-judged _ _ (Ok hint) said))) (ap (shown_with s) said.1)
+    told (Err r) said = efskey_judged s (follows (head_checks s) _ refl e (sym (said-judged _ _ (Err r) said))) refl
 
 -- A refused record: the first check that applies gives that refusal.
 pub refused_checks : (s : List ℕ) (r : Refusal) → efs_key_of s ≡ Err r → first_of (efs_key_checks s) ≡ Err r

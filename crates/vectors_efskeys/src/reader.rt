@@ -1,9 +1,8 @@
 // Keys read.
 use crate::{print, put_sid};
-use efskey::{EfsKeyRead, SidHint};
+use efskey::{EfsKey, SidHint};
 use line::{Line, Text};
 use std::io;
-use wire::Span;
 
 pub fn run(rt: &impl Print) -> io::Result<()> {
     accepted(rt)?;
@@ -205,20 +204,16 @@ fn headed(rt: &impl Print, name: &[u8], len: usize, head: [u32; 8]) -> io::Resul
 
 pub fn read(line: &mut Line, s: &[u8]) {
     match efskey::read(s) {
-        Ok(key) => {
-            let sid = key.sid;
-            let certificate = key.certificate;
-            shown(line, sid, certificate)
-        }
+        Ok(key) => shown(line, key),
         Err(refusal) => words::refused(line, refusal),
     }
 }
 
 // What an accepted record shows: the places of SID and certificate.
-fn shown(line: &mut Line, sid: SidHint, certificate: Span) {
-    hinted(line, sid);
+fn shown(line: &mut Line, key: EfsKey) {
+    hinted(line, key.sid);
     line.text(b" CERTIFICATE ");
-    words::span(line, certificate);
+    words::span(line, key.certificate);
 }
 
 fn hinted(line: &mut Line, sid: SidHint) {

@@ -1,7 +1,7 @@
 // Headers read.
 use crate::{MOST, THREE, front, print, put};
 use line::{Line, Text};
-use segment::{Head, Segment};
+use segment::{Head, Segment, Shifts};
 use std::io;
 use wire::Span;
 
@@ -265,7 +265,7 @@ pub fn read(line: &mut Line, s: &[u8]) {
 fn shown(line: &mut Line, segment: Segment) {
     let head = segment.head;
     numbered(line, head, segment.length);
-    shifted(line, head);
+    shifted(line, head.shifts);
     sized(line, segment.blocks, segment.sizes, segment.larger);
 }
 
@@ -280,13 +280,13 @@ fn numbered(line: &mut Line, head: Head, length: u32) {
     line.number(head.bytes_in_vdl as u64);
 }
 
-fn shifted(line: &mut Line, head: Head) {
+fn shifted(line: &mut Line, shifts: Shifts) {
     line.text(b" SHIFTS ");
-    line.number(head.unit_shift as u64);
+    line.number(shifts.unit as u64);
     line.text(b" ");
-    line.number(head.chunk_shift as u64);
+    line.number(shifts.chunk as u64);
     line.text(b" ");
-    line.number(head.cluster_shift as u64);
+    line.number(shifts.cluster as u64);
 }
 
 fn sized(line: &mut Line, blocks: u32, sizes: Span, larger: u32) {

@@ -1,7 +1,6 @@
 // The size of one block, asked for by its index.
 use crate::{MOST, THREE, front, print, put};
 use line::{Line, Text};
-use segment::SizeRead;
 use std::io;
 
 pub fn run(rt: &impl Print) -> io::Result<()> {

@@ -2,7 +2,7 @@
 use crate::{MOST, THREE, front, print, put, reader};
 use cases::FILL;
 use line::{Line, Text};
-use segment::{Head, SizeRead};
+use segment::{Head, Shifts};
 use std::io;
 use wire::Span;
 
@@ -132,14 +132,16 @@ fn many(rt: &impl Print, name: &[u8], room: usize, blocks: usize, chunk: u32) ->
     Ok(())
 }
 
-fn head(unit_shift: u32, chunk_shift: u32, cluster_shift: u32) -> Head {
+fn head(unit: u32, chunk: u32, cluster: u32) -> Head {
     Head {
         start_offset: 4_294_967_298,
         bytes_in_stream: 3,
         bytes_in_vdl: 4,
-        unit_shift,
-        chunk_shift,
-        cluster_shift,
+        shifts: Shifts {
+            unit,
+            chunk,
+            cluster,
+        },
     }
 }
 
@@ -227,8 +229,7 @@ fn rewrite(line: &mut Line, s: &[u8]) {
 fn size_at(s: &[u8], index: usize) -> u32 {
     match segment::size(s, index) {
         Ok(Some(bytes)) => bytes,
-        Ok(None) => 0,
-        Err(_) => 0,
+        Ok(None) | Err(_) => 0,
     }
 }
 
