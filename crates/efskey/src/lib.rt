@@ -37,7 +37,7 @@ pub enum EfsKeyPart {
 }
 
 impl SidHint {
-    // The kind that a host is told.
+    // The kind as a number, which the C interface needs.
     #[tactic(auto, unfolding(crate::specs::Reading::hint_kind))]
     pub fn kind(self) -> u32
         ensures { result ≡ hint_kind self }

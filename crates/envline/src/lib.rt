@@ -4,11 +4,13 @@
 ghost use Rattle.std.specs.Prelude.{◌≡◌};
 ghost use Rattle.envelope.specs.Reading.{envelope_of};
 ghost use Rattle.line.specs.Text.{text_of, put_all};
+ghost use Rattle.reach.specs.Reaches.{form_reach, reach_total};
 ghost use Rattle.envline.specs.Line.{envelope_words, line_words, line_of};
 
-use envelope::{Envelope, EnvelopeRead};
+use envelope::Envelope;
+use gkid::Gkid;
+use keys::Form;
 use line::{Line, Text};
-use reach::Reach;
 
 // The line for an envelope, newline-ended.
 pub fn line_of(s: &[u8]) -> Line
@@ -32,19 +34,28 @@ pub fn shown<T: Text>(out: &mut T, s: &[u8])
     }
 }
 
-#[tactic(auto, unfolding(line::specs::Text::put_all, words::specs::Words::identifier_words, crate::specs::Line::envelope_words))]
+#[tactic(auto, unfolding(line::specs::Text::put_all, words::specs::Words::identifier_words, reach::specs::Reaches::form_reach, crate::specs::Line::envelope_words))]
 fn accepted<T: Text>(out: &mut T, envelope: Envelope)
     ensures put { T.buffer out.new ≡ put_all (T.buffer out.old) (envelope_words envelope) }
     ensures lender { T.lender out.new ≡ T.lender out.old }
 {
-    let head = envelope.head;
-    let at = head.at;
+    let at = envelope.head.at;
     let form = envelope::form_of(envelope);
-    let total = Reach::of(form.keys(), at).total();
+    let total = reach_total(form, at);
     out.text(b"ENV ");
     words::identifier(out, at);
     out.text(b" ");
     words::form(out, form);
     out.text(b" ");
     out.number(total as u64);
+}
+
+// How many identifiers a form reaches; an accepted envelope's is not refused.
+fn reach_total(form: Form, at: Gkid) -> u32
+    ensures { result ≡ reach_total (form_reach form at) }
+{
+    match reach::form_reach(form, at) {
+        Ok(reach) => reach.total(),
+        Err(_) => 0,
+    }
 }

@@ -1,9 +1,11 @@
 -- Document 01, "The GetKey decision", as C has its answer, and the request and the rights as C hands them in, and as C is shown
 -- them.
-use Rattle.std.specs.Prelude.{ℕ, cond, eqb, replicate, Result, Err, Option, Some, None}
+use Rattle.std.specs.Prelude.{ℕ, cond, eqb, replicate, Result, Ok, Err, Option, Some, None}
+use Rattle.std.specs.Option.{is_some}
 use Rattle.rootid.specs.declared.RootId.{RootId}
 use Rattle.refusal.specs.declared.Refusal.{Refusal}
 use Rattle.request.specs.declared.Request.{Request}
+use Rattle.getkey.specs.declared.Granted.{Granted}
 use Rattle.getkey.specs.declared.Rights.{Rights}
 use Rattle.getkey.specs.declared.Rights.TheVariants as rights
 use Rattle.getkey.specs.Deciding.{answer_number, answer_at, answer_form, answer_row}
@@ -44,12 +46,11 @@ abbrev pub request_shown : Request → RequestIndices
 request_shown q = record { root_given = given_code q.root; l0 = q.l0; l1 = q.l1; l2 = q.l2; root = root_bytes_shown q.root }
 
 -- 1 with a root row, 2 for a root key to create, 0 on a refusal
-unfoldable pub grant_code : Result OkRow Refusal → ℕ
-grant_code (OkRow at form row) = 1
-grant_code (OkCreate at form) = 2
+unfoldable pub grant_code : Result Granted Refusal → ℕ
+grant_code (Ok granted) = cond (is_some granted.row) 1 2
 grant_code (Err r) = 0
 
-unfoldable pub decision_answer : Result OkRow Refusal → DecisionAnswer
+unfoldable pub decision_answer : Result Granted Refusal → DecisionAnswer
 decision_answer a =
     record {
       refusal = answer_number a;

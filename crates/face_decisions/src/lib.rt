@@ -2,15 +2,17 @@
 #![tactic(auto)]
 
 ghost use Rattle.std.specs.Prelude.{◌≡◌};
-ghost use Rattle.face_decisions.specs.Decisions.{rights_from, rights_code, root_from, request_from, given_code, root_bytes_shown, request_shown, decision_answer};
+ghost use Rattle.face_decisions.specs.Decisions.{rights_from, rights_code, request_from, request_shown, decision_answer};
 
-use face::{Identifier, RootBytes, form_code, to_bytes, to_identifier, to_root};
-use getkey::{Answer, Rights};
-use request::{Request, Root};
+use face::{Identifier, RootBytes, form_code};
+use getkey::{Granted, Rights};
+use refusal::Refusal;
+use request::Request;
+use rootid::RootId;
 
 // A request: root_given is 0 where no root key is named; -1 in the three indices asks for the latest.
 #[repr(C)]
-#[derive(Clone, Copy)]
+#[derive(Clone, Copy, Debug, PartialEq, Eq)]
 pub struct RequestIndices {
     pub root_given: u32,
     pub l0: i32,
@@ -21,7 +23,7 @@ pub struct RequestIndices {
 
 // A decision: granted is 1 with a root row, 2 for a root key to create.
 #[repr(C)]
-#[derive(Clone, Copy)]
+#[derive(Clone, Copy, Debug, PartialEq, Eq)]
 pub struct DecisionAnswer {
     pub refusal: u32,
     pub granted: u32,
@@ -30,18 +32,18 @@ pub struct DecisionAnswer {
     pub row: usize,
 }
 
+// The rights that a code names. The C interface needs numbers, and neither type is of this crate, so that this is no `From`.
 pub fn rights_from(code: u32) -> Rights
     ensures { result ≡ rights_from code }
 {
-    if code == 1 {
-        return Rights::Public;
+    match code {
+        1 => Rights::Public,
+        2 => Rights::Seed,
+        _ => Rights::None,
     }
-    if code == 2 {
-        return Rights::Seed;
-    }
-    Rights::None
 }
 
+// The code of rights.
 pub fn rights_code(rights: Rights) -> u32
     ensures { result ≡ rights_code rights }
 {
@@ -52,87 +54,60 @@ pub fn rights_code(rights: Rights) -> u32
     }
 }
 
-pub fn request_from(asked: RequestIndices) -> Request
-    ensures { result ≡ request_from asked }
-{
-    Request {
-        root: root_from(asked.root_given, asked.root),
-        l0: asked.l0,
-        l1: asked.l1,
-        l2: asked.l2,
-    }
-}
-
 // 0 names no root key; every other value names one, as C has it.
-fn root_from(given: u32, id: RootBytes) -> Root
-    ensures { result ≡ root_from given id }
-{
-    if given == 0 {
-        return None;
-    }
-    Some(to_root(id))
-}
+impl From<RequestIndices> for Request {
+    ghost from_gives = { λ asked request. request ≡ request_from asked };
 
-pub fn to_request(request: Request) -> RequestIndices
-    ensures { result ≡ request_shown request }
-{
-    let root = request.root;
-    RequestIndices {
-        root_given: given_code(root),
-        l0: request.l0,
-        l1: request.l1,
-        l2: request.l2,
-        root: root_bytes(root),
-    }
-}
-
-fn given_code(root: Root) -> u32
-    ensures { result ≡ given_code root }
-{
-    match root {
-        None => 0,
-        Some(_) => 1,
+    fn from(asked: RequestIndices) -> Request {
+        Request {
+            root: (asked.root_given != 0).then(|| RootId::from(asked.root)),
+            l0: asked.l0,
+            l1: asked.l1,
+            l2: asked.l2,
+        }
     }
 }
 
 // Zeros where no root key is named.
-fn root_bytes(root: Root) -> RootBytes
-    ensures { result ≡ root_bytes_shown root }
-{
-    match root {
-        None => RootBytes { bytes: [0; 16] },
-        Some(id) => to_bytes(id),
+impl From<Request> for RequestIndices {
+    ghost from_gives = { λ request shown. shown ≡ request_shown request };
+
+    fn from(request: Request) -> RequestIndices {
+        RequestIndices {
+            root_given: u32::from(request.root.is_some()),
+            l0: request.l0,
+            l1: request.l1,
+            l2: request.l2,
+            root: request
+                .root
+                .map_or(RootBytes { bytes: [0; 16] }, RootBytes::from),
+        }
     }
 }
 
-pub fn decision_answer(answer: Answer) -> DecisionAnswer
-    ensures { result ≡ decision_answer answer }
-{
-    match answer {
-        OkRow { at, form, row } => DecisionAnswer {
-            refusal: 0,
-            granted: 1,
-            form: form_code(form),
-            at: to_identifier(at),
-            row,
-        },
-        OkCreate { at, form } => DecisionAnswer {
-            refusal: 0,
-            granted: 2,
-            form: form_code(form),
-            at: to_identifier(at),
-            row: 0,
-        },
-        Err(refusal) => DecisionAnswer {
-            refusal: refusal.number(),
-            granted: 0,
-            form: 0,
-            at: Identifier {
-                l0: 0,
-                l1: 0,
-                l2: 0,
+impl From<Result<Granted, Refusal>> for DecisionAnswer {
+    ghost from_gives = { λ decision answer. answer ≡ decision_answer decision };
+
+    fn from(decision: Result<Granted, Refusal>) -> DecisionAnswer {
+        match decision {
+            Ok(Granted { at, form, row }) => DecisionAnswer {
+                refusal: 0,
+                granted: if row.is_some() { 1 } else { 2 },
+                form: form_code(form),
+                at: at.into(),
+                row: row.unwrap_or(0),
             },
-            row: 0,
-        },
+            Err(refusal) => DecisionAnswer {
+                refusal: refusal.number(),
+                granted: 0,
+                form: 0,
+                at: Identifier {
+                    l0: 0,
+                    l1: 0,
+                    l2: 0,
+                },
+                row: 0,
+            },
+        }
     }
 }

@@ -1,18 +1,16 @@
-// Document 01, "EfsKey", with No. 2 of document 02, as C has its answer: one function for each way that it ends.
+// Document 01, "EfsKey", with No. 2 of document 02, as C has its answer.
 #![tactic(auto)]
 
-ghost use Rattle.std.specs.Prelude.{◌≡◌};
-ghost use Rattle.efskey.specs.declared.EfsKeyRead.TheVariants.{Accepted, Refused};
+ghost use Rattle.std.specs.Prelude.{◌≡◌, Ok, Err};
 ghost use Rattle.face_efskeys.specs.EfsKeys.{efs_key_answer};
 
-use efskey::SidHint;
-use face::{Part, to_part};
+use efskey::EfsKey;
+use face::Part;
 use refusal::Refusal;
-use wire::Span;
 
-// An EfsKey. The kind of its SID is 0 for none, 1 for a SID, 2 where zeros in its place give no hint.
+// An EfsKey. The kind of its SID is a number, as C needs it: 0 for none, 1 for a SID, 2 where zeros in its place give no hint.
 #[repr(C)]
-#[derive(Clone, Copy)]
+#[derive(Clone, Copy, Debug, PartialEq, Eq)]
 pub struct EfsKeyAnswer {
     pub refusal: u32,
     pub kind: u32,
@@ -21,25 +19,31 @@ pub struct EfsKeyAnswer {
 }
 
 // Accepted, with what it has of a SID.
-pub fn efskey_accepted(sid: SidHint, certificate: Span) -> EfsKeyAnswer
-    ensures { result ≡ efs_key_answer (Accepted (record { sid = sid; certificate = certificate })) }
-{
-    EfsKeyAnswer {
-        refusal: 0,
-        kind: sid.kind(),
-        sid: to_part(sid.span()),
-        certificate: to_part(certificate),
+impl From<EfsKey> for EfsKeyAnswer {
+    ghost from_gives = { λ key answer. answer ≡ efs_key_answer (Ok key) };
+
+    #[tactic(auto, unfolding(crate::specs::EfsKeys::efs_key_answer, efskey::specs::Reading::efs_key_number, efskey::specs::Reading::sid_kind, efskey::specs::Reading::span_of))]
+    fn from(key: EfsKey) -> EfsKeyAnswer {
+        EfsKeyAnswer {
+            refusal: 0,
+            kind: key.sid.kind(),
+            sid: Part::from(key.sid.span()),
+            certificate: Part::from(key.certificate),
+        }
     }
 }
 
 // Refused: the number, and zeros.
-pub fn efskey_refused(refusal: Refusal) -> EfsKeyAnswer
-    ensures { result ≡ efs_key_answer (Refused refusal) }
-{
-    EfsKeyAnswer {
-        refusal: refusal.number(),
-        kind: 0,
-        sid: Part { at: 0, len: 0 },
-        certificate: Part { at: 0, len: 0 },
+impl From<Refusal> for EfsKeyAnswer {
+    ghost from_gives = { λ refusal answer. answer ≡ efs_key_answer (Err refusal) };
+
+    #[tactic(auto, unfolding(crate::specs::EfsKeys::efs_key_answer, efskey::specs::Reading::efs_key_number, efskey::specs::Reading::sid_kind, efskey::specs::Reading::span_of))]
+    fn from(refusal: Refusal) -> EfsKeyAnswer {
+        EfsKeyAnswer {
+            refusal: refusal.number(),
+            kind: 0,
+            sid: Part { at: 0, len: 0 },
+            certificate: Part { at: 0, len: 0 },
+        }
     }
 }

@@ -1,7 +1,7 @@
 // Document 01, "Key List Entry and list", as C has its answers: the entry, the list judged whole, and one step of its walk.
 #![tactic(auto)]
 
-ghost use Rattle.std.specs.Prelude.{◌≡◌};
+ghost use Rattle.std.specs.Prelude.{◌≡◌, Ok, Err};
 ghost use Rattle.face_entries.specs.Entries.{algorithm_code, entry_answer};
 ghost use Rattle.face_entries.specs.Lists.{list_answer, step_answer, no_entry};
 
@@ -48,28 +48,36 @@ pub struct StepAnswer {
     pub fek: Part,
 }
 
-// Accepted: what the entry shows. Refused: the number, and zeros.
-impl From<Result<Entry, Refusal>> for EntryAnswer {
-    ghost from_gives = { λ read answer. answer ≡ entry_answer read };
+// Accepted: what the entry shows.
+impl From<Entry> for EntryAnswer {
+    ghost from_gives = { λ entry answer. answer ≡ entry_answer (Ok entry) };
 
-    fn from(read: Result<Entry, Refusal>) -> EntryAnswer {
-        match read {
-            Ok(entry) => EntryAnswer {
-                refusal: 0,
-                algorithm: algorithm_code(entry.algorithm()),
-                flags: entry.flags,
-                reserved: 0,
-                item: to_part(entry.item),
-                fek: to_part(entry.fek),
-            },
-            Err(refusal) => EntryAnswer {
-                refusal: refusal.number(),
-                algorithm: 0,
-                flags: 0,
-                reserved: 0,
-                item: Part { at: 0, len: 0 },
-                fek: Part { at: 0, len: 0 },
-            },
+    #[tactic(auto, unfolding(crate::specs::Entries::entry_answer, crate::specs::Entries::entry_algorithm, keyentry::specs::Reading::entry_number, keyentry::specs::Reading::entry_values))]
+    fn from(entry: Entry) -> EntryAnswer {
+        EntryAnswer {
+            refusal: 0,
+            algorithm: algorithm_code(entry.algorithm()),
+            flags: entry.flags,
+            reserved: 0,
+            item: to_part(entry.item),
+            fek: to_part(entry.fek),
+        }
+    }
+}
+
+// Refused: the number, and zeros.
+impl From<Refusal> for EntryAnswer {
+    ghost from_gives = { λ refusal answer. answer ≡ entry_answer (Err refusal) };
+
+    #[tactic(auto, unfolding(crate::specs::Entries::entry_answer, crate::specs::Entries::entry_algorithm, keyentry::specs::Reading::entry_number, keyentry::specs::Reading::entry_values))]
+    fn from(refusal: Refusal) -> EntryAnswer {
+        EntryAnswer {
+            refusal: refusal.number(),
+            algorithm: 0,
+            flags: 0,
+            reserved: 0,
+            item: Part { at: 0, len: 0 },
+            fek: Part { at: 0, len: 0 },
         }
     }
 }
@@ -77,6 +85,7 @@ impl From<Result<Entry, Refusal>> for EntryAnswer {
 impl From<Result<u32, ListRefusal>> for ListAnswer {
     ghost from_gives = { λ read answer. answer ≡ list_answer read };
 
+    #[tactic(auto, unfolding(crate::specs::Lists::list_answer, keylist::specs::Reading::list_number, keylist::specs::Reading::list_count, keylist::specs::Reading::list_index))]
     fn from(read: Result<u32, ListRefusal>) -> ListAnswer {
         match read {
             Ok(count) => ListAnswer {
@@ -96,6 +105,7 @@ impl From<Result<u32, ListRefusal>> for ListAnswer {
 impl From<Advance> for StepAnswer {
     ghost from_gives = { λ advance answer. answer ≡ step_answer advance };
 
+    #[tactic(auto, unfolding(crate::specs::Lists::step_answer, crate::specs::Lists::found_code, crate::specs::Lists::step_algorithm, keylist::specs::Stepping::step_number, keylist::specs::Stepping::step_index, keylist::specs::Stepping::step_found))]
     fn from(advance: Advance) -> StepAnswer {
         let next = advance.place;
         match advance.step {
@@ -138,6 +148,7 @@ fn no_entry(refusal: u32, found: u32, index: u32, next: Place) -> StepAnswer
     }
 }
 
+#[tactic(auto, unfolding(crate::specs::Entries::algorithm_code))]
 fn algorithm_code(algorithm: Algorithm) -> u32
     ensures { result ≡ algorithm_code algorithm }
 {

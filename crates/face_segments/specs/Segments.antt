@@ -17,9 +17,9 @@ segment_answer r =
       start_offset = (segment_values r).head.start_offset;
       bytes_in_stream = (segment_values r).head.bytes_in_stream;
       bytes_in_vdl = (segment_values r).head.bytes_in_vdl;
-      unit_shift = (segment_values r).head.unit_shift;
-      chunk_shift = (segment_values r).head.chunk_shift;
-      cluster_shift = (segment_values r).head.cluster_shift;
+      unit_shift = (segment_values r).head.shifts.unit;
+      chunk_shift = (segment_values r).head.shifts.chunk;
+      cluster_shift = (segment_values r).head.shifts.cluster;
       blocks = (segment_values r).blocks;
       larger = (segment_values r).larger;
       reserved = 0;
@@ -36,7 +36,5 @@ head_from start stream vdl unit chunk cluster =
       start_offset = start;
       bytes_in_stream = stream;
       bytes_in_vdl = vdl;
-      unit_shift = unit;
-      chunk_shift = chunk;
-      cluster_shift = cluster;
+      shifts = record { unit = unit; chunk = chunk; cluster = cluster };
     }

@@ -4,7 +4,7 @@ ghost use Rattle.descriptor.specs.Checking.{finding_of, finding_number};
 ghost use Rattle.getkey.specs.Deciding.{decision, decision_by_verdict};
 ghost use Rattle.face_decisions.specs.Decisions.{rights_from, request_from, decision_answer};
 
-use face_decisions::{DecisionAnswer, RequestIndices, decision_answer, request_from, rights_from};
+use face_decisions::{DecisionAnswer, RequestIndices, rights_from};
 use gkid::FileTime;
 
 // Sound, or the part that fails first: no refusal, but an answer of its own.
@@ -12,7 +12,7 @@ use gkid::FileTime;
 pub extern "C" fn gw_descriptor_check(s: &[u8]) -> u32
     ensures { result ≡ finding_number (finding_of s.now) }
 {
-    descriptor::check(s).number()
+    descriptor::number(descriptor::check(s))
 }
 
 #[unsafe(no_mangle)]
@@ -58,11 +58,12 @@ fn decided(
 ) -> DecisionAnswer
     ensures { result ≡ decision_answer (decision_by_verdict verdict (rights_from rights) (request_from asked) (record { 0 = clock }) table.now) }
 {
-    decision_answer(getkey::decide_by_verdict(
+    getkey::decide_by_verdict(
         verdict,
         rights_from(rights),
-        request_from(asked),
+        asked.into(),
         FileTime(clock),
         table,
-    ))
+    )
+    .into()
 }

@@ -10,10 +10,7 @@ ghost use Rattle.face_entries.specs.Entries.{entry_answer};
 ghost use Rattle.face_entries.specs.Lists.{list_answer, step_answer};
 
 use face::{WrittenAnswer, to_written};
-use face_entries::{
-    EntryAnswer, ListAnswer, StepAnswer, entry_answer, entry_refused, list_answer, step_answer,
-};
-use keyentry::EntryRead;
+use face_entries::{EntryAnswer, ListAnswer, StepAnswer};
 use keylist::Place;
 
 #[unsafe(no_mangle)]
@@ -22,10 +19,10 @@ pub extern "C" fn gw_entry_read(s: &[u8]) -> EntryAnswer
 {
     match keyentry::read(s) {
         Ok(entry) => {
-            return entry_answer(entry);
+            return EntryAnswer::from(entry);
         }
         Err(refusal) => {
-            return entry_refused(refusal);
+            return EntryAnswer::from(refusal);
         }
     }
 }
@@ -47,7 +44,7 @@ pub extern "C" fn gw_entry_write(
 pub extern "C" fn gw_list_judge(list: &[u8]) -> ListAnswer
     ensures { result ≡ list_answer (list_of list.now) }
 {
-    list_answer(keylist::judge(list))
+    ListAnswer::from(keylist::judge(list))
 }
 
 // The walk starts at offset 4 and index 0, and goes on at the next place that a step answers. At the end and on a refusal that is
@@ -56,5 +53,5 @@ pub extern "C" fn gw_list_judge(list: &[u8]) -> ListAnswer
 pub extern "C" fn gw_list_step(list: &[u8], at: usize, index: u32) -> StepAnswer
     ensures { result ≡ step_answer (advance_of list.now (record { at = at; index = index })) }
 {
-    step_answer(keylist::next_step(list, Place { at, index }))
+    StepAnswer::from(keylist::next_step(list, Place { at, index }))
 }

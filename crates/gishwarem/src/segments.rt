@@ -6,21 +6,18 @@ ghost use Rattle.segment.specs.Writing.{segment_bytes, segment_written};
 ghost use Rattle.face.specs.Shapes.{written_answer};
 ghost use Rattle.face_segments.specs.Segments.{segment_answer, size_answer, head_from};
 
-use face::{WrittenAnswer, to_written};
-use face_segments::{SegmentAnswer, SizeAnswer, segment_answer, segment_refused, size_answer};
-use segment::{Head, SegmentRead};
+use face::WrittenAnswer;
+use face_segments::{SegmentAnswer, SizeAnswer};
+use segment::{Head, Shifts};
 
 #[unsafe(no_mangle)]
 pub extern "C" fn gw_segment_read(s: &[u8]) -> SegmentAnswer
     ensures { result ≡ segment_answer (segment_of s.now) }
 {
+    // The refusal returns, so that the answer is laid out where it is told: as one value of both arms it is copied once more.
     match segment::read(s) {
-        Ok(segment) => {
-            return segment_answer(segment);
-        }
-        Err(refusal) => {
-            return segment_refused(refusal);
-        }
+        Ok(segment) => SegmentAnswer::from(segment),
+        Err(refusal) => return SegmentAnswer::from(refusal),
     }
 }
 
@@ -28,7 +25,7 @@ pub extern "C" fn gw_segment_read(s: &[u8]) -> SegmentAnswer
 pub extern "C" fn gw_segment_size(s: &[u8], index: usize) -> SizeAnswer
     ensures { result ≡ size_answer (size_of s.now index) }
 {
-    size_answer(segment::size(s, index))
+    SizeAnswer::from(segment::size(s, index))
 }
 
 #[unsafe(no_mangle)]
@@ -45,15 +42,17 @@ pub extern "C" fn gw_segment_write(
     ensures answer { result ≡ written_answer (segment_written (head_from start_offset bytes_in_stream bytes_in_vdl unit_shift chunk_shift cluster_shift) sizes.now (length out.old)) }
     ensures output { out.new ≡ output_of (segment_written (head_from start_offset bytes_in_stream bytes_in_vdl unit_shift chunk_shift cluster_shift) sizes.now (length out.old)) (segment_bytes (head_from start_offset bytes_in_stream bytes_in_vdl unit_shift chunk_shift cluster_shift) sizes.now) out.old }
 {
-    to_written(segment::write(
+    WrittenAnswer::from(segment::write(
         out,
         Head {
             start_offset,
             bytes_in_stream,
             bytes_in_vdl,
-            unit_shift,
-            chunk_shift,
-            cluster_shift,
+            shifts: Shifts {
+                unit: unit_shift,
+                chunk: chunk_shift,
+                cluster: cluster_shift,
+            },
         },
         sizes,
     ))

@@ -20,7 +20,7 @@ use Rattle.keylist.specs.declared.Place.{Place}
 use Rattle.keylist.specs.declared.Found.{Found}
 use Rattle.keylist.specs.declared.Advance.{Advance}
 use Rattle.keylist.specs.Reading.{count_of, list_checks, length_at, record_at, extent_checks, extent_of, bounds_number, bounds_span, place_checks, refused_at, entries_from}
-use Rattle.keylist.specs.Passing.{judged_at, entered}
+use Rattle.keylist.specs.Passing.{entry_at}
 use Rattle.keylist.specs.Stepping.{found_at, end_at, entry_step, step_of, place_after, arrived, advance_of, step_span, list_span, list_part}
 
 -- the step of an outcome
@@ -52,19 +52,20 @@ pub step_end : (s : List ℕ) (p : Place) → length s ≤ 65535 → 4 ≤ lengt
 unfolding step_of unless_refused
 step_end s p l h i = rw (within s l h, le-ltb p.index (count_of s) i)
 
--- the answer of an outcome at a place, and what it tells
+-- what an answer tells of the outcome before it
+told_ok : {A : Type 0} {x y : A} (o : Outcome) → unless_refused Err o (Ok x) ≡ Ok y → (o ≡ Ok tt) × (y ≡ x)
+unfolding unless_refused
+told_ok (Ok tt) h = (refl, cc)
+told_ok (Err r) h = let z : ◌≡◌ {A = ℕ} 0 1 = cc in absurd (omega arith)
+
+told_refused : {A : Type 0} (x : A) {r : Refusal} (o : Outcome) → unless_refused Err o (Ok x) ≡ Err r → o ≡ Err r
+unfolding unless_refused
+told_refused x (Ok tt) h = let z : ◌≡◌ {A = ℕ} 0 1 = cc in absurd (omega arith)
+told_refused x (Err q) h = ap Err (cc)
+
+-- the answer of an outcome at a place
 abbrev at_place : List ℕ → ℕ → Outcome → Result Span Refusal
 at_place s at o = unless_refused Err o (Ok (record { at = at; len = length_at s at }))
-
-told_record : (s : List ℕ) (at : ℕ) (span : Span) (o : Outcome) → at_place s at o ≡ Ok span → (o ≡ Ok tt) × (span ≡ record { at = at; len = length_at s at })
-unfolding unless_refused
-told_record s at span (Ok tt) h = (refl, cc)
-told_record s at span (Err r) h = let z : ◌≡◌ {A = ℕ} 0 1 = cc in absurd (omega arith)
-
-told_refused : (s : List ℕ) (at : ℕ) (r : Refusal) (o : Outcome) → at_place s at o ≡ Err r → o ≡ Err r
-unfolding unless_refused
-told_refused s at r (Ok tt) h = let z : ◌≡◌ {A = ℕ} 0 1 = cc in absurd (omega arith)
-told_refused s at r (Err q) h = ap Err (cc)
 
 -- What the list rule told of a place.
 pub record Lies (s : List ℕ) (at : ℕ) (span : Span) : Type 0 where
@@ -81,7 +82,7 @@ lying s at span accepted is =
 
 pub lies : (s : List ℕ) (at : ℕ) (span : Span) → extent_of s at ≡ Ok span → Lies s at span
 unfolding extent_of
-lies s at span e = let told = told_record s at span (first_of (extent_checks s at)) e in lying s at span told.0 told.1
+lies s at span e = let told = told_ok (first_of (extent_checks s at)) e in lying s at span told.0 told.1
 
 -- What `extent` promises of its answer: the number of the first check that applies, and a place inside the list.
 pub extent_told : (s : List ℕ) (at : ℕ) {b : Result Span Refusal} → b ≡ extent_of s at
@@ -96,7 +97,7 @@ extent_told s at e = (e, rw e (told (first_of (extent_checks s at)) refl))
 -- The outcome at a place: the list rule's refusal, or what the entry's reader says of its record.
 pub place_barred : (s : List ℕ) (at : ℕ) (r : Refusal) → extent_of s at ≡ Err r → first_of (place_checks s at) ≡ Err r
 unfolding extent_of unless_refused place_checks
-place_barred s at r e = rw (first_append (extent_checks s at) (entry_checks (record_at s at)), told_refused s at r (first_of (extent_checks s at)) e)
+place_barred s at r e = rw (first_append (extent_checks s at) (entry_checks (record_at s at)), told_refused _ (first_of (extent_checks s at)) e)
 
 module _ (s : List ℕ) (at : ℕ) (span : Span) (l : Lies s at span) where
   place_read : first_of (place_checks s at) ≡ first_of (entry_checks (record_at s at))
@@ -112,27 +113,32 @@ module _ (s : List ℕ) (at : ℕ) (span : Span) (l : Lies s at span) where
   pub place_refused : (r : Refusal) → entry_of (part_of s span.at span.len) ≡ Err r → first_of (place_checks s at) ≡ Err r
   place_refused r h = place_read ∙ refused_checks (record_at s at) r (record_is ∙ h)
 
--- The entry at a place and the place behind it, by that outcome.
-pub entered_accepted : (s : List ℕ) (p : Place) (span : Span) → Lies s p.at span → (e : Entry) → entry_of (part_of s span.at span.len) ≡ Ok e
-    → entered s p ≡ Ok (record { step = Ok (Some (record { index = p.index; at = p.at; entry = e })); place = record { at = p.at + span.len; index = p.index + 1 } })
-unfolding entered unless_refused found_at
-entered_accepted s p span l e h = let told = place_accepted s p.at span l e h in rw (told.0, told.1, l.is)
+-- The entry at a place and its length, by that outcome.
+pub entry_accepted : (s : List ℕ) (at : ℕ) (span : Span) → Lies s at span → (e : Entry) → entry_of (part_of s span.at span.len) ≡ Ok e → entry_at s at ≡ Ok (e, span.len)
+unfolding entry_at unless_refused
+entry_accepted s at span l e h = let told = place_accepted s at span l e h in rw (told.0, told.1, l.is)
 
-pub entered_refused : (s : List ℕ) (p : Place) (r : Refusal) → first_of (place_checks s p.at) ≡ Err r → entered s p ≡ Err r
-unfolding entered unless_refused
-entered_refused s p r e = rw e
+pub entry_refused : (s : List ℕ) (at : ℕ) (r : Refusal) → first_of (place_checks s at) ≡ Err r → entry_at s at ≡ Err r
+unfolding entry_at unless_refused
+entry_refused s at r e = rw e
+
+-- what it tells of the place
+pub entry_lies : (s : List ℕ) (at : ℕ) (e : Entry) (len : ℕ) → entry_at s at ≡ Ok (e, len) → Lies s at (record { at = at; len = len }) × (first_of (place_checks s at) ≡ Ok tt)
+unfolding entry_at place_checks
+entry_lies s at e len h =
+    let told = told_ok (first_of (place_checks s at)) h in
+    (lying s at _ (append-accepted (extent_checks s at) _ told.0).0 (ap (λ x. record { at = at; len = x.1 }) told.1), told.0)
 
 -- the step that this is: the entry, or the refusal given for it
-abbrev pub stepped_in : Place → Result Advance Refusal → Advance
-stepped_in p (Ok advance) = advance
+abbrev pub stepped_in : Place → Result (Entry × ℕ) Refusal → Advance
+stepped_in p (Ok (e, len)) = record { step = Ok (Some (record { index = p.index; at = p.at; entry = e })); place = record { at = p.at + len; index = p.index + 1 } }
 stepped_in p (Err r) = record { step = refused_at p.index r; place = p }
 
-pub step_entered : (s : List ℕ) (p : Place) → length s ≤ 65535 → 4 ≤ length s → p.index < count_of s → {e : Result Advance Refusal} → e ≡ entered s p → stepped_in p e ≡ advance_of s p
-unfolding arrived entry_step entered unless_refused place_after
+pub step_entered : (s : List ℕ) (p : Place) → length s ≤ 65535 → 4 ≤ length s → p.index < count_of s → {e : Result (Entry × ℕ) Refusal} → e ≡ entry_at s p.at → stepped_in p e ≡ advance_of s p
+unfolding arrived entry_step entry_at unless_refused place_after found_at
 step_entered s p l h i e = ap (stepped_in p) e ∙ told (first_of (place_checks s p.at)) ∙ sym (ap (arrived s p) (step_entry s p l h i))
   where
-    told : (o : Outcome) → stepped_in p (unless_refused Err o (Ok (record { step = Ok (Some (found_at s p)); place = record { at = p.at + length_at s p.at; index = p.index + 1 } })))
-        ≡ arrived s p (step_unless o p.index (Ok (Some (found_at s p))))
+    told : (o : Outcome) → stepped_in p (unless_refused Err o (Ok (shown (record_at s p.at), length_at s p.at))) ≡ arrived s p (step_unless o p.index (Ok (Some (found_at s p))))
     told (Ok tt) = refl
     told (Err r) = refl
 
@@ -162,16 +168,14 @@ none_left : (n m : ℕ) → n ≤ m → n - m ≡ 0
 none_left n m h = omega arith
 
 -- A turn of the judge: what is left from a place on is a refusal, or what is left from the next place on.
-pub turn_refused : (s : List ℕ) (at index : ℕ) (r : Refusal) → index < count_of s → judged_at s at ≡ Err r → entries_from (count_of s - index) s at index ≡ refused_at index r
-unfolding judged_at entries_from unless_refused
-turn_refused s at index r h e = rw (one_left (count_of s) index h, told_refused s at r (first_of (place_checks s at)) e)
+pub turn_refused : (s : List ℕ) (at index : ℕ) (r : Refusal) → index < count_of s → entry_at s at ≡ Err r → entries_from (count_of s - index) s at index ≡ refused_at index r
+unfolding entry_at entries_from unless_refused
+turn_refused s at index r h e = rw (one_left (count_of s) index h, told_refused _ (first_of (place_checks s at)) e)
 
-pub turn_on : (s : List ℕ) (at index : ℕ) (span : Span) → index < count_of s → judged_at s at ≡ Ok span
-    → Lies s at span × (entries_from (count_of s - index) s at index ≡ entries_from (count_of s - (index + 1)) s (at + span.len) (index + 1))
-unfolding judged_at entries_from unless_refused place_checks
-turn_on s at index span h e =
-    let told = told_record s at span (first_of (place_checks s at)) e in
-    (lying s at span (append-accepted (extent_checks s at) _ told.0).0 told.1, rw (one_left (count_of s) index h, told.0, told.1))
+pub turn_on : (s : List ℕ) (at index : ℕ) (e : Entry) (len : ℕ) → index < count_of s → entry_at s at ≡ Ok (e, len)
+    → entries_from (count_of s - index) s at index ≡ entries_from (count_of s - (index + 1)) s (at + len) (index + 1)
+unfolding entries_from unless_refused
+turn_on s at index e len h told = let lies = entry_lies s at e len told in rw (one_left (count_of s) index h, lies.1, ap (λ x. x.len) lies.0.is)
 
 says_entry : (s : List ℕ) (p : Place) → p.index < count_of s → (o : Outcome) → first_of (place_checks s p.at) ≡ o
     → Says (Ok tt) s p (step_unless o p.index (Ok (Some (found_at s p)))) (place_after (step_unless o p.index (Ok (Some (found_at s p)))) s p)

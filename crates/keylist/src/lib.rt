@@ -5,7 +5,7 @@ ghost use Rattle.std.specs.Prelude.{◌≡◌, ◌+◌, ◌≤◌, ◌<◌, leng
 ghost use Rattle.refusal.specs.Chain.{first_of};
 ghost use Rattle.refusal.specs.Number.{outcome_number};
 ghost use Rattle.keylist.specs.Reading.{extent_checks, extent_of, bounds_number, bounds_span, list_of};
-ghost use Rattle.keylist.specs.Passing.{judged_at, entered};
+ghost use Rattle.keylist.specs.Passing.{entry_at};
 ghost use Rattle.keylist.specs.Stepping.{end_at, arrived, advance_of, list_span, list_part};
 
 use keyentry::{Entry, EntryPart};
@@ -75,30 +75,17 @@ pub fn next_step(list: &[u8], place: Place) -> Advance
     if le32_at(list, 0) <= place.index {
         return finish(list, place);
     }
-    match enter(list, place) {
-        Ok(advance) => advance,
-        Err(refusal) => {
-            let index = place.index;
-            stay(Err(ListRefusal { refusal, index }), place)
-        }
-    }
-}
-
-// The entry at a place and the place behind it, where the list rule and the entry's reader accept it.
-fn enter(list: &[u8], place: Place) -> Result<Advance, Refusal>
-    requires { place.index < 4294967295 }
-    ensures { result ≡ entered list.now place }
-{
     let Place { at, index } = place;
-    let span = extent(list, at)?;
-    let entry = keyentry::read(wire::part(list, span))?;
-    Ok(Advance {
-        step: Ok(Some(Found { index, at, entry })),
-        place: Place {
-            at: at + span.len,
-            index: index + 1,
+    match entry_at(list, at) {
+        Ok((entry, len)) => Advance {
+            step: Ok(Some(Found { index, at, entry })),
+            place: Place {
+                at: at + len,
+                index: index + 1,
+            },
         },
-    })
+        Err(refusal) => stay(Err(ListRefusal { refusal, index }), place),
+    }
 }
 
 // A part of the entry at a place: those very bytes of the list, or the empty part where the step there shows no entry.
@@ -164,13 +151,13 @@ fn stay(step: Step, place: Place) -> Advance
     Advance { step, place }
 }
 
-// The record at a place, where the list rule and the entry's reader accept it.
-fn judge_at(list: &[u8], at: usize) -> Result<Span, Refusal>
-    ensures { result ≡ judged_at list.now at }
+// The entry at a place and its length, where the list rule and the entry's reader accept it.
+fn entry_at(list: &[u8], at: usize) -> Result<(Entry, usize), Refusal>
+    ensures { result ≡ entry_at list.now at }
 {
     let span = extent(list, at)?;
-    keyentry::read(wire::part(list, span))?;
-    Ok(span)
+    let entry = keyentry::read(wire::part(list, span))?;
+    Ok((entry, span.len))
 }
 
 // The list's count, or its refusal, in one pass.
@@ -186,8 +173,8 @@ pub fn judge(list: &[u8]) -> Result<u32, ListRefusal>
     let count = le32_at(list, 0);
     let mut at = 4;
     for index in 0..count {
-        match judge_at(list, at) {
-            Ok(span) => at += span.len,
+        match entry_at(list, at) {
+            Ok((_, len)) => at += len,
             Err(refusal) => return Err(ListRefusal { refusal, index }),
         }
     }

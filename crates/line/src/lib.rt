@@ -1,18 +1,21 @@
-// Text put together from pieces, byte strings and numbers in decimal: in lent bytes, or in a line that goes by value. Every function
-// is total: a piece that does not fit is left out.
+// Text put together from pieces, byte strings and numbers in decimal: in lent bytes, or in a line, which has bytes of its own. Every
+// function is total: a piece that does not fit is left out.
 #![tactic(auto)]
 
 ghost use Rattle.std.specs.Prelude.{◌≤◌};
+ghost use Rattle.line.specs.declared.TheConstants.{ROOM};
 
 // How many bytes a line holds.
 pub const ROOM: usize = 256;
 
-// Bytes, of which the first are text so far.
+// What text is put into: bytes, of which the first are text so far. It is no `fmt::Write`, which cannot say that a piece is left out and
+// that those behind it are put.
 pub trait Text {
     ghost use Rattle.std.specs.Prelude.{◌≡◌};
     ghost use Rattle.std.specs.Borrow.{GName};
     ghost use Rattle.line.specs.Text.{Buffer, put, decimal_of};
 
+    // The bytes, and how many of them are text.
     ghost buffer: { Self → Buffer };
 
     // Whose bytes they are.
@@ -23,7 +26,8 @@ pub trait Text {
         ensures put { buffer self.new ≡ put (buffer self.old) s.now }
         ensures lender { lender self.new ≡ lender self.old };
 
-    // A number in decimal, put behind the text. Its digits are made from the last one on.
+    // A number in decimal, put behind the text. Its digits are made from the last one on. The place is counted by hand: an iterator
+    // over the digits would need it as well, to hand on those from the first one on.
     fn number(&mut self, n: u64)
         ensures put { buffer self.new ≡ put (buffer self.old) (decimal_of n) }
         ensures lender { lender self.new ≡ lender self.old }
@@ -66,12 +70,12 @@ impl Text for Lent<'_> {
     }
 }
 
-// A line of text: the first `len` of its bytes.
+// A line of text: the first `len` of its bytes. There is no heap, and so they are an array.
 #[derive(Clone, Copy)]
 pub struct Line {
     bytes: [u8; ROOM],
     len: usize,
-    ghost in_room: { len ≤ 256 },
+    ghost in_room: { len ≤ ROOM },
 }
 
 impl Line {

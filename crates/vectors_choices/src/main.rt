@@ -4,10 +4,10 @@
 
 use cases::MARK;
 use gkid::{Gkid, L0, L1, L2};
-use line::Line;
+use line::{Line, Text};
 use refusal::Refusal;
 use rootid::RootId;
-use serving::{Choice, SeedKey};
+use serving::{Choice, SeedKey, Serving};
 use std::io;
 use wire::Span;
 
@@ -360,46 +360,52 @@ fn choice(
         l1: L1(l1),
         l2: L2(l2),
     };
-    print(
-        rt,
-        chosen(
-            Line::new().text(name),
-            wanted,
-            cases::first(&a, cached.len),
-            cases::first(&b, fetched.len),
-        ),
-    )
+    let mut line = Line::new();
+    line.text(name);
+    chosen(
+        &mut line,
+        wanted,
+        cases::first(&a, cached.len),
+        cases::first(&b, fetched.len),
+    );
+    print(rt, line)
 }
 
 // The answer; and the part's length and the number that it begins with.
-fn chosen<'a>(line: Line, wanted: Gkid, cached: &'a [u8], fetched: &'a [u8]) -> Line {
+fn chosen<'a>(line: &mut Line, wanted: Gkid, cached: &'a [u8], fetched: &'a [u8]) {
     let root = RootId { high: 1, low: 2 };
     let part = serving::serving_key(root, wanted, cached, fetched);
-    let told = answer(line, serving::choose(root, wanted, cached, fetched)).text(b" PART ");
-    told.number(part.len() as u64)
-        .text(b" ")
-        .number(wire::le32_at(part, 0) as u64)
+    answer(line, serving::choose(root, wanted, cached, fetched));
+    line.text(b" PART ");
+    line.number(part.len() as u64);
+    line.text(b" ");
+    line.number(wire::le32_at(part, 0) as u64);
 }
 
-fn answer(line: Line, choice: Choice) -> Line {
+fn answer(line: &mut Line, choice: Result<Choice, Refusal>) {
     match choice {
-        Choice::Cached(key, span) => by(line.text(b"CACHED "), key, span),
-        Choice::Fetched(key, span) => by(line.text(b"FETCHED "), key, span),
-        Choice::Neither => words::refused(line, Refusal::NeitherServes),
+        Ok(Choice::Cached(serving)) => {
+            line.text(b"CACHED ");
+            by(line, serving);
+        }
+        Ok(Choice::Fetched(serving)) => {
+            line.text(b"FETCHED ");
+            by(line, serving);
+        }
+        Err(refusal) => words::refused(line, refusal),
     }
 }
 
-fn by(line: Line, key: SeedKey, span: Span) -> Line {
-    match key {
-        SeedKey::L1 => words::span(line.text(b"L1 "), span),
-        SeedKey::L2 => words::span(line.text(b"L2 "), span),
+fn by(line: &mut Line, serving: Serving) {
+    match serving.key {
+        SeedKey::L1 => line.text(b"L1 "),
+        SeedKey::L2 => line.text(b"L2 "),
     }
+    words::span(line, serving.place);
 }
 
 // A finished line, on standard output.
-fn print(rt: &impl Print, line: Line) -> io::Result<()> {
-    let ended = line.text(b"\n");
-    let bytes = ended.bytes;
-    let len = ended.len;
-    rt.write_all(wire::part(&bytes, Span { at: 0, len }))
+fn print(rt: &impl Print, mut line: Line) -> io::Result<()> {
+    line.text(b"\n");
+    rt.write_all(line.as_bytes())
 }

@@ -2,14 +2,13 @@
 // too. Each case is a line: its name, then what the library answers. The file `stdout` beside src/ holds what the paper says.
 #![tactic(auto)]
 
-use getkey::{Answer, Rights};
+use getkey::{Granted, Rights};
 use gkid::{FileTime, Gkid};
 use keys::Form;
-use line::Line;
-use request::{Request, Root};
+use line::{Line, Text};
+use request::Request;
 use rootid::RootId;
 use std::io;
-use wire::Span;
 
 const NOW: FileTime = FileTime(1_880_280_000_000_000);
 
@@ -57,18 +56,8 @@ fn granted(rt: &impl Print) -> io::Result<()> {
 
 fn indices(rt: &impl Print) -> io::Result<()> {
     asked(rt, b"decision: L0 of -2: ", None, [-2, -2, -2])?;
-    asked(
-        rt,
-        b"decision: least L0: ",
-        None,
-        [-2_147_483_648, 0, 0],
-    )?;
-    asked(
-        rt,
-        b"decision: greatest L0: ",
-        None,
-        [2_147_483_647, 0, 0],
-    )?;
+    asked(rt, b"decision: least L0: ", None, [-2_147_483_648, 0, 0])?;
+    asked(rt, b"decision: greatest L0: ", None, [2_147_483_647, 0, 0])?;
     asked(rt, b"decision: L1 of 32: ", None, [0, 32, 0])?;
     asked(rt, b"decision: L1 of -2: ", None, [0, -2, 0])?;
     asked(rt, b"decision: L2 of -2: ", None, [0, 0, -2])?;
@@ -316,7 +305,10 @@ fn described(rt: &impl Print, name: &[u8], descriptor: &[u8], indices: [i32; 3])
     row(&mut table, 0, 1, 3, 4);
     let asked = request(None, indices);
     let answer = getkey::decide(descriptor, Rights::Seed, asked, NOW, &table);
-    print(rt, decided(Line::new().text(name), answer))
+    let mut line = Line::new();
+    line.text(name);
+    decided(&mut line, answer);
+    print(rt, line)
 }
 
 // Each refusal where the next in order applies too.
@@ -329,20 +321,12 @@ fn orders(rt: &impl Print) -> io::Result<()> {
         NOW,
         &short,
     );
-    print(
-        rt,
-        decided(
-            Line::new().text(b"decision: 16 before 14, by verdict: "),
-            refused,
-        ),
-    )?;
+    let mut line = Line::new();
+    line.text(b"decision: 16 before 14, by verdict: ");
+    decided(&mut line, refused);
+    print(rt, line)?;
     asked(rt, b"decision: 14 before 15: ", None, [0, -1, 32])?;
-    asked(
-        rt,
-        b"decision: 14 before 15, L0 of -2: ",
-        None,
-        [-2, -1, 0],
-    )?;
+    asked(rt, b"decision: 14 before 15, L0 of -2: ", None, [-2, -1, 0])?;
     asked(rt, b"decision: 15 before 17: ", None, [6, -1, 0])?;
     allowed(
         rt,
@@ -369,11 +353,11 @@ fn orders(rt: &impl Print) -> io::Result<()> {
     )
 }
 
-fn root(low: u64) -> Root {
+fn root(low: u64) -> Option<RootId> {
     Some(RootId { high: 0, low })
 }
 
-fn request(root: Root, indices: [i32; 3]) -> Request {
+fn request(root: Option<RootId>, indices: [i32; 3]) -> Request {
     Request {
         root,
         l0: indices[0],
@@ -414,19 +398,25 @@ fn put_time(dst: &mut [u8], time: u64) {
 }
 
 // With seed rights, and one row that suits: by descriptor, then by verdict.
-fn both_ways(rt: &impl Print, name: &[u8], root: Root, indices: [i32; 3]) -> io::Result<()> {
+fn both_ways(
+    rt: &impl Print,
+    name: &[u8],
+    root: Option<RootId>,
+    indices: [i32; 3],
+) -> io::Result<()> {
     asked(rt, name, root, indices)?;
     let mut table = [0; 32];
     row(&mut table, 0, 1, 3, 4);
     let answer = getkey::decide_by_verdict(true, Rights::Seed, request(root, indices), NOW, &table);
-    print(
-        rt,
-        decided(Line::new().text(name).text(b"by verdict "), answer),
-    )
+    let mut line = Line::new();
+    line.text(name);
+    line.text(b"by verdict ");
+    decided(&mut line, answer);
+    print(rt, line)
 }
 
 // With seed rights, and one row that suits.
-fn asked(rt: &impl Print, name: &[u8], root: Root, indices: [i32; 3]) -> io::Result<()> {
+fn asked(rt: &impl Print, name: &[u8], root: Option<RootId>, indices: [i32; 3]) -> io::Result<()> {
     allowed(rt, name, Rights::Seed, root, indices)
 }
 
@@ -435,7 +425,7 @@ fn allowed(
     rt: &impl Print,
     name: &[u8],
     rights: Rights,
-    root: Root,
+    root: Option<RootId>,
     indices: [i32; 3],
 ) -> io::Result<()> {
     let mut table = [0; 32];
@@ -447,37 +437,49 @@ fn answer(
     rt: &impl Print,
     name: &[u8],
     rights: Rights,
-    root: Root,
+    root: Option<RootId>,
     indices: [i32; 3],
     table: &[u8],
 ) -> io::Result<()> {
     let descriptor = least();
     let answer = getkey::decide(&descriptor, rights, request(root, indices), NOW, table);
-    print(rt, decided(Line::new().text(name), answer))
+    let mut line = Line::new();
+    line.text(name);
+    decided(&mut line, answer);
+    print(rt, line)
 }
 
 // The row or CREATE, or the refusal.
-fn decided(line: Line, answer: Answer) -> Line {
-    match answer {
-        OkRow { at, form, row } => granted_form(line, at, form)
-            .text(b" ROW ")
-            .number(row as u64),
-        OkCreate { at, form } => granted_form(line, at, form).text(b" CREATE"),
-        Err(refusal) => words::refused(line, refusal),
+fn decided(line: &mut Line, answer: Result<Granted, Refusal>) {
+    let granted = match answer {
+        Ok(granted) => granted,
+        Err(refusal) => return words::refused(line, refusal),
+    };
+    granted_form(line, granted.at, granted.form);
+    match granted.row {
+        Some(row) => {
+            line.text(b" ROW ");
+            line.number(row as u64);
+        }
+        None => line.text(b" CREATE"),
     }
 }
 
 // The identifier, the form, and how many it reaches there.
-fn granted_form(line: Line, at: Gkid, form: Form) -> Line {
-    let reach = reach::form_reach(form, at);
-    let formed = words::form(words::identifier(line, at).text(b" "), form);
-    formed.text(b" ").number(reach.total() as u64)
+fn granted_form(line: &mut Line, at: Gkid, form: Form) {
+    words::identifier(line, at);
+    line.text(b" ");
+    words::form(line, form);
+    line.text(b" ");
+    let total = match reach::form_reach(form, at) {
+        Ok(reach) => reach.total(),
+        Err(_) => 0,
+    };
+    line.number(total as u64);
 }
 
 // A finished line, on standard output.
-fn print(rt: &impl Print, line: Line) -> io::Result<()> {
-    let ended = line.text(b"\n");
-    let bytes = ended.bytes;
-    let len = ended.len;
-    rt.write_all(wire::part(&bytes, Span { at: 0, len }))
+fn print(rt: &impl Print, mut line: Line) -> io::Result<()> {
+    line.text(b"\n");
+    rt.write_all(line.as_bytes())
 }

@@ -5,12 +5,11 @@
 mod items;
 mod places;
 
-use descriptor::Finding;
+use descriptor::Part;
 use input::Input;
-use line::Line;
+use line::{Line, Text};
 use std::io;
 use std::io::Read;
-use wire::Span;
 
 // Revision 1 and the control bit 0x8000, as the head's first number.
 const FIRST: u32 = 0x8000_0001;
@@ -85,24 +84,25 @@ fn four_items(bytes: &mut [u8]) {
 
 // A case: its name, and what is found.
 fn told(rt: &impl Print, name: &[u8], bytes: &[u8]) -> io::Result<()> {
-    print(rt, found(Line::new().text(name), descriptor::check(bytes)))
+    let mut line = Line::new();
+    line.text(name);
+    found(&mut line, descriptor::check(bytes));
+    print(rt, line)
 }
 
-fn found(line: Line, finding: Finding) -> Line {
+fn found(line: &mut Line, finding: Result<(), Part>) {
     match finding {
-        Finding::Sound => line.text(b"SOUND"),
-        Finding::Head => line.text(b"HEAD"),
-        Finding::Owner => line.text(b"OWNER"),
-        Finding::Group => line.text(b"GROUP"),
-        Finding::Sacl => line.text(b"SACL"),
-        Finding::Dacl => line.text(b"DACL"),
+        Ok(()) => line.text(b"SOUND"),
+        Err(Part::Head) => line.text(b"HEAD"),
+        Err(Part::Owner) => line.text(b"OWNER"),
+        Err(Part::Group) => line.text(b"GROUP"),
+        Err(Part::Sacl) => line.text(b"SACL"),
+        Err(Part::Dacl) => line.text(b"DACL"),
     }
 }
 
 // A finished line, on standard output.
-fn print(rt: &impl Print, line: Line) -> io::Result<()> {
-    let ended = line.text(b"\n");
-    let bytes = ended.bytes;
-    let len = ended.len;
-    rt.write_all(wire::part(&bytes, Span { at: 0, len }))
+fn print(rt: &impl Print, mut line: Line) -> io::Result<()> {
+    line.text(b"\n");
+    rt.write_all(line.as_bytes())
 }

@@ -5,9 +5,8 @@
 mod reader;
 mod writer;
 
-use line::Line;
+use line::{Line, Text};
 use std::io;
-use wire::Span;
 
 fn main(rt: HostRuntime) -> io::Result<()> {
     reader::run(&rt)?;
@@ -20,9 +19,7 @@ fn put_sid(dst: &mut [u8], at: usize, revision: u8, count: u8) {
 }
 
 // A finished line, on standard output.
-fn print(rt: &impl Print, line: Line) -> io::Result<()> {
-    let ended = line.text(b"\n");
-    let bytes = ended.bytes;
-    let len = ended.len;
-    rt.write_all(wire::part(&bytes, Span { at: 0, len }))
+fn print(rt: &impl Print, mut line: Line) -> io::Result<()> {
+    line.text(b"\n");
+    rt.write_all(line.as_bytes())
 }

@@ -1,7 +1,7 @@
 // Keys read.
 use crate::{print, put_sid};
 use efskey::{EfsKeyRead, SidHint};
-use line::Line;
+use line::{Line, Text};
 use std::io;
 use wire::Span;
 
@@ -154,10 +154,10 @@ fn key(
     let mut s = [0; 65536];
     cases::numbers(&mut s, 0, &head(len, sid, n, c));
     put_sid(&mut s, 32, revision, count);
-    print(
-        rt,
-        read(Line::new().text(name), cases::first(&s, len as usize)),
-    )
+    let mut line = Line::new();
+    line.text(name);
+    read(&mut line, cases::first(&s, len as usize));
+    print(rt, line)
 }
 
 // A SID area with these bytes first and zeros behind them, and a certificate of n at the offset c.
@@ -165,10 +165,10 @@ fn area(rt: &impl Print, name: &[u8], len: u32, n: u32, c: u32, first: &[u8]) ->
     let mut s = [0; 65536];
     cases::numbers(&mut s, 0, &head(len, 28, n, c));
     cases::bytes(&mut s, 32, first);
-    print(
-        rt,
-        read(Line::new().text(name), cases::first(&s, len as usize)),
-    )
+    let mut line = Line::new();
+    line.text(name);
+    read(&mut line, cases::first(&s, len as usize));
+    print(rt, line)
 }
 
 // A record of 45 bytes, with a SID area of 12 zeros but for a 1 at that byte of the record.
@@ -176,8 +176,12 @@ fn marked(rt: &impl Print, at: usize) -> io::Result<()> {
     let mut s = [0; 65536];
     cases::numbers(&mut s, 0, &head(45, 28, 1, 40));
     cases::bytes(&mut s, at, &[1]);
-    let name = Line::new().text(b"key: 12 zeros, 1 at ").number(at as u64);
-    print(rt, read(name.text(b": "), cases::first(&s, 45)))
+    let mut line = Line::new();
+    line.text(b"key: 12 zeros, 1 at ");
+    line.number(at as u64);
+    line.text(b": ");
+    read(&mut line, cases::first(&s, 45));
+    print(rt, line)
 }
 
 fn head(len: u32, sid: u32, n: u32, c: u32) -> [u32; 8] {
@@ -193,10 +197,13 @@ fn lengthed(rt: &impl Print, name: &[u8], length1: u32, length2: u32) -> io::Res
 fn headed(rt: &impl Print, name: &[u8], len: usize, head: [u32; 8]) -> io::Result<()> {
     let mut s = [0; 65536];
     cases::numbers(&mut s, 0, &head);
-    print(rt, read(Line::new().text(name), cases::first(&s, len)))
+    let mut line = Line::new();
+    line.text(name);
+    read(&mut line, cases::first(&s, len));
+    print(rt, line)
 }
 
-pub fn read(line: Line, s: &[u8]) -> Line {
+pub fn read(line: &mut Line, s: &[u8]) {
     match efskey::read(s) {
         Ok(key) => {
             let sid = key.sid;
@@ -208,14 +215,22 @@ pub fn read(line: Line, s: &[u8]) -> Line {
 }
 
 // What an accepted record shows: the places of SID and certificate.
-fn shown(line: Line, sid: SidHint, certificate: Span) -> Line {
-    words::span(hinted(line, sid).text(b" CERTIFICATE "), certificate)
+fn shown(line: &mut Line, sid: SidHint, certificate: Span) {
+    hinted(line, sid);
+    line.text(b" CERTIFICATE ");
+    words::span(line, certificate);
 }
 
-fn hinted(line: Line, sid: SidHint) -> Line {
+fn hinted(line: &mut Line, sid: SidHint) {
     match sid {
         SidHint::None => line.text(b"NO SID"),
-        SidHint::Sid(span) => words::span(line.text(b"SID "), span),
-        SidHint::NoHint(span) => words::span(line.text(b"NO HINT "), span),
+        SidHint::Sid(span) => {
+            line.text(b"SID ");
+            words::span(line, span);
+        }
+        SidHint::NoHint(span) => {
+            line.text(b"NO HINT ");
+            words::span(line, span);
+        }
     }
 }

@@ -2,8 +2,7 @@
 use crate::{print, put_sid, reader};
 use cases::FILL;
 use efskey::EfsKeyPart;
-use line::Line;
-use records::Written;
+use line::{Line, Text};
 use std::io;
 use wire::Span;
 
@@ -114,58 +113,65 @@ fn zeroed(rt: &impl Print, name: &[u8], room: usize, k: usize, n: usize) -> io::
 fn marked(rt: &impl Print, at: usize) -> io::Result<()> {
     let mut area = [0; 12];
     cases::bytes(&mut area, at, &[1]);
-    let name = Line::new()
-        .text(b"key writer: 12 zeros, 1 at ")
-        .number(at as u64);
-    put(rt, name.text(b": "), 64, &area, 1)
+    let mut line = Line::new();
+    line.text(b"key writer: 12 zeros, 1 at ");
+    line.number(at as u64);
+    line.text(b": ");
+    put(rt, line, 64, &area, 1)
 }
 
 fn given(rt: &impl Print, name: &[u8], room: usize, sid: &[u8], n: usize) -> io::Result<()> {
-    put(rt, Line::new().text(name), room, sid, n)
+    let mut line = Line::new();
+    line.text(name);
+    put(rt, line, room, sid, n)
 }
 
-fn put(rt: &impl Print, line: Line, room: usize, sid: &[u8], n: usize) -> io::Result<()> {
+fn put(rt: &impl Print, mut line: Line, room: usize, sid: &[u8], n: usize) -> io::Result<()> {
     let certificate = [99; 65536];
     let mut out = [FILL; 65536];
-    print(
-        rt,
-        written(line, &mut out, room, sid, cases::first(&certificate, n)),
-    )
+    written(
+        &mut line,
+        &mut out,
+        room,
+        sid,
+        cases::first(&certificate, n),
+    );
+    print(rt, line)
 }
 
-fn written(line: Line, out: &mut [u8], room: usize, sid: &[u8], certificate: &[u8]) -> Line {
+fn written(line: &mut Line, out: &mut [u8], room: usize, sid: &[u8], certificate: &[u8]) {
     if room <= out.len() {
         let answer = efskey::write(&mut out[0..room], sid, certificate);
-        let told = words::written(line, answer);
+        words::written(line, answer);
         if let Ok(len) = answer {
-            let back = read_back(told.text(b" "), cases::first(out, len), sid, certificate);
-            return kept(back, out, len);
+            line.text(b" ");
+            read_back(line, cases::first(out, len), sid, certificate);
+            return kept(line, out, len);
         }
-        return kept(told, out, 0);
+        kept(line, out, 0);
     }
-    line
 }
 
 // What is read of a record, whether its parts are those that were written, and Reserved2.
-fn read_back(line: Line, s: &[u8], sid: &[u8], certificate: &[u8]) -> Line {
-    let read = reader::read(line, s);
-    let same = parts_compared(read, s, sid, certificate);
-    same.text(b" RESERVED2 ").number(wire::le64_at(s, 24))
+fn read_back(line: &mut Line, s: &[u8], sid: &[u8], certificate: &[u8]) {
+    reader::read(line, s);
+    parts_compared(line, s, sid, certificate);
+    line.text(b" RESERVED2 ");
+    line.number(wire::le64_at(s, 24));
 }
 
-fn parts_compared(line: Line, s: &[u8], sid: &[u8], certificate: &[u8]) -> Line {
-    let compared = cases::compared(line.text(b" "), efskey::part(s, EfsKeyPart::Sid), sid);
-    cases::compared(
-        compared.text(b" "),
-        efskey::part(s, EfsKeyPart::Certificate),
-        certificate,
-    )
+fn parts_compared(line: &mut Line, s: &[u8], sid: &[u8], certificate: &[u8]) {
+    line.text(b" ");
+    cases::compared(line, efskey::part(s, EfsKeyPart::Sid), sid);
+    line.text(b" ");
+    cases::compared(line, efskey::part(s, EfsKeyPart::Certificate), certificate);
 }
 
 // Whether the output from len on is as it was.
-fn kept(line: Line, out: &[u8], len: usize) -> Line {
+fn kept(line: &mut Line, out: &[u8], len: usize) {
     let before = [FILL; 65536];
-    cases::kept(line.text(b" "), &before, out, len)
+    line.text(b" ");
+    cases::kept(line, &before, out, len);
 }
 
 // What was read from a record of 47 bytes, of them 12 of a SID, is written: before Reserved2, behind it, and as a whole.
@@ -175,23 +181,25 @@ fn rewritten(rt: &impl Print, name: &[u8], reserved2: u32, sid: &[u8]) -> io::Re
     cases::numbers(&mut s, 0, &[47, 43, 28, 2, 3, 40, reserved2, 0]);
     cases::bytes(&mut s, 32, sid);
     cases::bytes(&mut s, 44, b"abc");
-    print(rt, rewrite(Line::new().text(name), &mut out, &s))
+    let mut line = Line::new();
+    line.text(name);
+    rewrite(&mut line, &mut out, &s);
+    print(rt, line)
 }
 
-fn rewrite(line: Line, out: &mut [u8], s: &[u8]) -> Line {
+fn rewrite(line: &mut Line, out: &mut [u8], s: &[u8]) {
     let sid = efskey::part(s, EfsKeyPart::Sid);
     let certificate = efskey::part(s, EfsKeyPart::Certificate);
-    let told = words::written(line, efskey::write(out, sid, certificate));
-    compared(told, out, s)
+    words::written(line, efskey::write(out, sid, certificate));
+    compared(line, out, s);
 }
 
-fn compared(line: Line, out: &[u8], s: &[u8]) -> Line {
+fn compared(line: &mut Line, out: &[u8], s: &[u8]) {
     let behind = Span { at: 32, len: 15 };
-    let before = cases::compared(line.text(b" "), cases::first(out, 24), cases::first(s, 24));
-    let bodies = cases::compared(
-        before.text(b" "),
-        wire::part(out, behind),
-        wire::part(s, behind),
-    );
-    cases::compared(bodies.text(b" "), out, s)
+    line.text(b" ");
+    cases::compared(line, cases::first(out, 24), cases::first(s, 24));
+    line.text(b" ");
+    cases::compared(line, wire::part(out, behind), wire::part(s, behind));
+    line.text(b" ");
+    cases::compared(line, out, s);
 }

@@ -1,7 +1,7 @@
 // Entries read.
 use crate::print;
-use keyentry::{Algorithm, Entry, EntryRead};
-use line::Line;
+use keyentry::{Algorithm, Entry};
+use line::{Line, Text};
 use std::io;
 
 pub fn run(rt: &impl Print) -> io::Result<()> {
@@ -187,10 +187,13 @@ fn flagged(rt: &impl Print, name: &[u8], flags: u32) -> io::Result<()> {
 fn headed(rt: &impl Print, name: &[u8], len: usize, head: [u32; 5], n: u32) -> io::Result<()> {
     let mut s = [0; 65536];
     cases::entry(&mut s, head, n);
-    print(rt, read(Line::new().text(name), cases::first(&s, len)))
+    let mut line = Line::new();
+    line.text(name);
+    read(&mut line, cases::first(&s, len));
+    print(rt, line)
 }
 
-pub fn read(line: Line, s: &[u8]) -> Line {
+pub fn read(line: &mut Line, s: &[u8]) {
     match keyentry::read(s) {
         Ok(entry) => shown(line, entry),
         Err(refusal) => words::refused(line, refusal),
@@ -198,15 +201,19 @@ pub fn read(line: Line, s: &[u8]) -> Line {
 }
 
 // What an accepted entry shows: Flags, and the places of item and FEK.
-pub fn shown(line: Line, entry: Entry) -> Line {
+pub fn shown(line: &mut Line, entry: Entry) {
     let item = entry.item;
     let fek = entry.fek;
-    let flags = line.text(b"FLAGS ").number(entry.flags as u64);
-    let placed = words::span(algorithm(flags, entry.algorithm()).text(b" ITEM "), item);
-    words::span(placed.text(b" FEK "), fek)
+    line.text(b"FLAGS ");
+    line.number(entry.flags as u64);
+    algorithm(line, entry.algorithm());
+    line.text(b" ITEM ");
+    words::span(line, item);
+    line.text(b" FEK ");
+    words::span(line, fek);
 }
 
-fn algorithm(line: Line, algorithm: Algorithm) -> Line {
+fn algorithm(line: &mut Line, algorithm: Algorithm) {
     match algorithm {
         Algorithm::Rsa => line.text(b" RSA"),
         Algorithm::Aes256 => line.text(b" AES-256"),

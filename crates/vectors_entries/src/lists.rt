@@ -2,8 +2,8 @@
 use crate::{entries, print};
 use keyentry::EntryPart;
 use keylist::walk::Walk;
-use keylist::{ListRead, Place, Step};
-use line::Line;
+use keylist::{Found, ListRefusal, Place};
+use line::{Line, Text};
 use refusal::Refusal;
 use std::io;
 
@@ -139,21 +139,27 @@ fn list(
 ) -> io::Result<()> {
     let mut s = [0; 65536];
     put(&mut s, count, first, second);
-    print(rt, judged(Line::new().text(name), cases::first(&s, len)))
+    let mut line = Line::new();
+    line.text(name);
+    judged(&mut line, cases::first(&s, len));
+    print(rt, line)
 }
 
-fn judged(line: Line, list: &[u8]) -> Line {
+fn judged(line: &mut Line, list: &[u8]) {
     match keylist::judge(list) {
-        Ok(n) => line.text(b"COUNT ").number(n as u64),
-        ErrAt(refusal, index) => refused(line, refusal, index),
+        Ok(n) => {
+            line.text(b"COUNT ");
+            line.number(n as u64);
+        }
+        Err(told) => refused(line, told),
     }
 }
 
 // A refusal, and the index of the entry that it is given for.
-fn refused(line: Line, refusal: Refusal, index: u32) -> Line {
-    words::refused(line, refusal)
-        .text(b" INDEX ")
-        .number(index as u64)
+fn refused(line: &mut Line, told: ListRefusal) {
+    words::refused(line, told.refusal);
+    line.text(b" INDEX ");
+    line.number(told.index as u64);
 }
 
 fn walks(rt: &impl Print) -> io::Result<()> {
@@ -170,31 +176,24 @@ fn walks(rt: &impl Print) -> io::Result<()> {
 fn walk(rt: &impl Print, name: &[u8], len: usize, count: u32, second: [u32; 5]) -> io::Result<()> {
     let mut s = [0; 65536];
     put(&mut s, count, SOUND, second);
-    print(rt, steps(Line::new().text(name), cases::first(&s, len)))
+    let mut line = Line::new();
+    line.text(name);
+    steps(&mut line, cases::first(&s, len));
+    print(rt, line)
 }
 
-fn steps(line: Line, list: &[u8]) -> Line {
-    let place = Place::START;
-    let two = step(step(Walked { line, place }, list), list);
-    let four = step(step(two, list), list);
-    four.line
+fn steps(line: &mut Line, list: &[u8]) {
+    let mut place = Place::START;
+    for _ in 0..4u8 {
+        place = step(line, place, list);
+    }
 }
 
-// The line so far, and the place of the next step.
-#[derive(Clone, Copy)]
-struct Walked {
-    line: Line,
-    place: Place,
-}
-
-fn step(walked: Walked, list: &[u8]) -> Walked {
-    let line = walked.line;
-    let from = walked.place;
+fn step(line: &mut Line, from: Place, list: &[u8]) -> Place {
     let advance = keylist::next_step(list, from);
-    let step = advance.step;
-    let place = advance.place;
-    let line = found(line.text(b" "), step);
-    Walked { line, place }
+    line.text(b" ");
+    found(line, advance.step);
+    advance.place
 }
 
 // The same by one walk, which holds the list and its place.
@@ -206,16 +205,19 @@ fn held(rt: &impl Print) -> io::Result<()> {
 fn hold(rt: &impl Print, name: &[u8], len: usize, count: u32, second: [u32; 5]) -> io::Result<()> {
     let mut s = [0; 65536];
     put(&mut s, count, SOUND, second);
-    print(rt, told(Line::new().text(name), ask(cases::first(&s, len))))
+    let mut line = Line::new();
+    line.text(name);
+    told(&mut line, ask(cases::first(&s, len)));
+    print(rt, line)
 }
 
 // What one walk answers when it is asked four times.
 #[derive(Clone, Copy)]
 struct Asked {
-    one: Step,
-    two: Step,
-    three: Step,
-    four: Step,
+    one: Result<Option<Found>, ListRefusal>,
+    two: Result<Option<Found>, ListRefusal>,
+    three: Result<Option<Found>, ListRefusal>,
+    four: Result<Option<Found>, ListRefusal>,
 }
 
 fn ask(list: &[u8]) -> Asked {
@@ -232,28 +234,26 @@ fn ask(list: &[u8]) -> Asked {
     }
 }
 
-fn told(line: Line, asked: Asked) -> Line {
-    let one = asked.one;
-    let two = asked.two;
-    let three = asked.three;
-    let four = asked.four;
-    let line = found(found(line.text(b" "), one).text(b" "), two);
-    found(found(line.text(b" "), three).text(b" "), four)
+fn told(line: &mut Line, asked: Asked) {
+    for step in [asked.one, asked.two, asked.three, asked.four] {
+        line.text(b" ");
+        found(line, step);
+    }
 }
 
-fn found(line: Line, step: Step) -> Line {
+fn found(line: &mut Line, step: Result<Option<Found>, ListRefusal>) {
     match step {
         Ok(Some(found)) => {
             let entry = found.entry;
-            let at = line
-                .text(b"ENTRY ")
-                .number(found.index as u64)
-                .text(b" AT ")
-                .number(found.at as u64);
-            entries::shown(at.text(b" "), entry)
+            line.text(b"ENTRY ");
+            line.number(found.index as u64);
+            line.text(b" AT ");
+            line.number(found.at as u64);
+            line.text(b" ");
+            entries::shown(line, entry);
         }
         Ok(None) => line.text(b"END"),
-        ErrAt(refusal, index) => refused(line, refusal, index),
+        Err(told) => refused(line, told),
     }
 }
 
@@ -267,16 +267,16 @@ fn item(rt: &impl Print, name: &[u8], second: [u32; 5], n: usize) -> io::Result<
     let mut s = [0; 65536];
     let whole = [4, 0, 0, 0];
     put(&mut s, 2, SOUND, second);
-    print(
-        rt,
-        cases::compared(
-            Line::new().text(name),
-            keylist::part(
-                cases::first(&s, 54),
-                Place { at: 29, index: 1 },
-                EntryPart::Item,
-            ),
-            cases::first(&whole, n),
+    let mut line = Line::new();
+    line.text(name);
+    cases::compared(
+        &mut line,
+        keylist::part(
+            cases::first(&s, 54),
+            Place { at: 29, index: 1 },
+            EntryPart::Item,
         ),
-    )
+        cases::first(&whole, n),
+    );
+    print(rt, line)
 }

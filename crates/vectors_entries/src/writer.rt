@@ -2,8 +2,7 @@
 use crate::{entries, print};
 use cases::FILL;
 use keyentry::EntryPart;
-use line::Line;
-use records::Written;
+use line::{Line, Text};
 use std::io;
 
 pub fn run(rt: &impl Print) -> io::Result<()> {
@@ -52,41 +51,44 @@ fn write(
     let fek = [102; 65536];
     let mut out = [FILL; 64];
     cases::numbers(&mut item, 0, &[says]);
-    print(
-        rt,
-        written(
-            Line::new().text(name),
-            &mut out,
-            room,
-            flags,
-            cases::first(&item, n),
-            cases::first(&fek, e),
-        ),
-    )
+    let mut line = Line::new();
+    line.text(name);
+    written(
+        &mut line,
+        &mut out,
+        room,
+        flags,
+        cases::first(&item, n),
+        cases::first(&fek, e),
+    );
+    print(rt, line)
 }
 
-fn written(line: Line, out: &mut [u8], room: usize, flags: u32, item: &[u8], fek: &[u8]) -> Line {
+fn written(line: &mut Line, out: &mut [u8], room: usize, flags: u32, item: &[u8], fek: &[u8]) {
     if room <= out.len() {
         let answer = keyentry::write(&mut out[0..room], flags, item, fek);
-        let told = words::written(line, answer);
+        words::written(line, answer);
         if let Ok(len) = answer {
-            let back = read_back(told.text(b" "), cases::first(out, len), item, fek);
-            return kept(back, out, len);
+            line.text(b" ");
+            read_back(line, cases::first(out, len), item, fek);
+            return kept(line, out, len);
         }
-        return kept(told, out, 0);
+        kept(line, out, 0);
     }
-    line
 }
 
 // What is read of a record, and whether its parts are those that were written.
-fn read_back(line: Line, s: &[u8], item: &[u8], fek: &[u8]) -> Line {
-    let read = entries::read(line, s);
-    let compared = cases::compared(read.text(b" "), keyentry::part(s, EntryPart::Item), item);
-    cases::compared(compared.text(b" "), keyentry::part(s, EntryPart::Fek), fek)
+fn read_back(line: &mut Line, s: &[u8], item: &[u8], fek: &[u8]) {
+    entries::read(line, s);
+    line.text(b" ");
+    cases::compared(line, keyentry::part(s, EntryPart::Item), item);
+    line.text(b" ");
+    cases::compared(line, keyentry::part(s, EntryPart::Fek), fek);
 }
 
 // Whether the output from len on is as it was.
-fn kept(line: Line, out: &[u8], len: usize) -> Line {
+fn kept(line: &mut Line, out: &[u8], len: usize) {
     let before = [FILL; 64];
-    cases::kept(line.text(b" "), &before, out, len)
+    line.text(b" ");
+    cases::kept(line, &before, out, len);
 }

@@ -38,8 +38,5 @@ pub fn spelt(
 // The case's name, then the line that the program `envinfo` writes for these bytes.
 pub fn told(rt: &impl Print, name: &[u8], s: &[u8]) -> io::Result<()> {
     write(rt, name)?;
-    let line = envline::line_of(s);
-    let bytes = line.bytes;
-    let len = line.len;
-    write(rt, cases::first(&bytes, len))
+    write(rt, envline::line_of(s).as_bytes())
 }

@@ -6,9 +6,8 @@ mod surrogates;
 mod views;
 mod writer;
 
-use line::Line;
+use line::{Line, Text};
 use std::io;
-use wire::Span;
 
 fn main(rt: HostRuntime) -> io::Result<()> {
     views::run(&rt, &mut rt.stdin())?;
@@ -17,9 +16,7 @@ fn main(rt: HostRuntime) -> io::Result<()> {
 }
 
 // A finished line, on standard output.
-fn print(rt: &impl Print, line: Line) -> io::Result<()> {
-    let ended = line.text(b"\n");
-    let bytes = ended.bytes;
-    let len = ended.len;
-    rt.write_all(wire::part(&bytes, Span { at: 0, len }))
+fn print(rt: &impl Print, mut line: Line) -> io::Result<()> {
+    line.text(b"\n");
+    rt.write_all(line.as_bytes())
 }

@@ -3,8 +3,7 @@ use crate::print;
 use crate::writer::{head_at, shown};
 use cases::FILL;
 use envelope::Head;
-use line::Line;
-use records::Written;
+use line::{Line, Text};
 use std::io;
 
 // A text: the first len of these bytes.
@@ -173,24 +172,24 @@ fn put(
     l1_key: usize,
 ) -> io::Result<()> {
     let mut out = [FILL; 200];
-    print(
-        rt,
-        written(
-            Line::new().text(name),
-            &mut out,
-            room,
-            head_at(0, l1, 7, 0),
-            kdf,
-            agreement,
-            domain,
-            forest,
-            l1_key,
-        ),
-    )
+    let mut line = Line::new();
+    line.text(name);
+    written(
+        &mut line,
+        &mut out,
+        room,
+        head_at(0, l1, 7, 0),
+        kdf,
+        agreement,
+        domain,
+        forest,
+        l1_key,
+    );
+    print(rt, line)
 }
 
 fn written(
-    line: Line,
+    line: &mut Line,
     out: &mut [u8],
     room: usize,
     head: Head,
@@ -199,7 +198,7 @@ fn written(
     domain: Spelt,
     forest: Spelt,
     l1_key: usize,
-) -> Line {
+) {
     if room <= out.len() {
         let answer = with_algorithms(
             &mut out[0..room],
@@ -210,9 +209,8 @@ fn written(
             forest,
             l1_key,
         );
-        return shown(line, answer, out);
+        shown(line, answer, out);
     }
-    line
 }
 
 fn with_algorithms(
@@ -223,7 +221,7 @@ fn with_algorithms(
     domain: Spelt,
     forest: Spelt,
     l1_key: usize,
-) -> Written {
+) -> Result<usize, Refusal> {
     let first = kdf.bytes;
     let second = agreement.bytes;
     with_names(
@@ -245,7 +243,7 @@ fn with_names(
     domain: Spelt,
     forest: Spelt,
     l1_key: usize,
-) -> Written {
+) -> Result<usize, Refusal> {
     let third = domain.bytes;
     let fourth = forest.bytes;
     with_key(
@@ -267,7 +265,7 @@ fn with_key(
     domain: &[u8],
     forest: &[u8],
     l1_key: usize,
-) -> Written {
+) -> Result<usize, Refusal> {
     let zeros = [0; 64];
     let none = cases::first(&zeros, 0);
     let key = cases::first(&zeros, l1_key);

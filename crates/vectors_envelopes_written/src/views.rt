@@ -2,9 +2,9 @@
 // implementation made (sample data of the test suite of Samba 4.22), which stands on standard input.
 use crate::print;
 use cases::MARK;
-use envelope::{Bodies, EnvelopePart, EnvelopeRead, Head};
+use envelope::{Bodies, EnvelopePart, Head};
 use input::Input;
-use line::Line;
+use line::{Line, Text};
 use std::io;
 use std::io::Read;
 use wire::Span;
@@ -30,7 +30,10 @@ fn peer(rt: &impl Print, from: &mut impl Read) -> io::Result<()> {
     let mut buffer = [0; 65536];
     if let Input::Bytes(len) = input::read_all(from, &mut buffer) {
         let s = cases::first(&buffer, len);
-        print(rt, envline::shown(Line::new().text(b"peer: "), s))?;
+        let mut line = Line::new();
+        line.text(b"peer: ");
+        envline::shown(&mut line, s);
+        print(rt, line)?;
         view(rt, s)?;
         names(rt, s)?;
     }
@@ -66,73 +69,81 @@ fn names(rt: &impl Print, s: &[u8]) -> io::Result<()> {
 }
 
 fn named(rt: &impl Print, name: &[u8], text: &[u8], expected: &[u8]) -> io::Result<()> {
-    print(rt, cases::compared(Line::new().text(name), text, expected))
+    let mut line = Line::new();
+    line.text(name);
+    cases::compared(&mut line, text, expected);
+    print(rt, line)
 }
 
 fn view(rt: &impl Print, s: &[u8]) -> io::Result<()> {
-    let line = Line::new().text(b"envelope: all values: ");
+    let mut line = Line::new();
+    line.text(b"envelope: all values: ");
     match envelope::read(s) {
         Ok(envelope) => {
             let head = envelope.head;
             let bodies = envelope.bodies;
-            print(rt, show_bodies(show_head(line, head), bodies))?;
+            show_head(&mut line, head);
+            show_bodies(&mut line, bodies);
+            print(rt, line)?;
             rewritten(rt, head, s)
         }
-        Err(refusal) => print(rt, words::refused(line, refusal)),
+        Err(refusal) => {
+            words::refused(&mut line, refusal);
+            print(rt, line)
+        }
     }
 }
 
-fn show_head(line: Line, head: Head) -> Line {
+fn show_head(line: &mut Line, head: Head) {
     let at = head.at;
     let root = head.root;
-    let flags = line
-        .text(b"VERSION ")
-        .number(head.version as u64)
-        .text(b" FLAGS ")
-        .number(head.flags as u64);
-    let rooted = words::identifier(flags.text(b" AT "), at)
-        .text(b" ROOT ")
-        .number(root.low)
-        .text(b" ")
-        .number(root.high);
-    rooted
-        .text(b" PRIVATE ")
-        .number(head.private_length as u64)
-        .text(b" PUBLIC ")
-        .number(head.public_length as u64)
+    line.text(b"VERSION ");
+    line.number(head.version as u64);
+    line.text(b" FLAGS ");
+    line.number(head.flags as u64);
+    line.text(b" AT ");
+    words::identifier(line, at);
+    line.text(b" ROOT ");
+    line.number(root.low);
+    line.text(b" ");
+    line.number(root.high);
+    line.text(b" PRIVATE ");
+    line.number(head.private_length as u64);
+    line.text(b" PUBLIC ");
+    line.number(head.public_length as u64);
 }
 
 // The eight places.
-fn show_bodies(line: Line, bodies: Bodies) -> Line {
-    let kdf = bodies.kdf;
-    let kdf_parameters = bodies.kdf_parameters;
-    let agreement = bodies.agreement;
-    let agreement_parameters = bodies.agreement_parameters;
-    let domain = bodies.domain;
-    let forest = bodies.forest;
-    let l1_key = bodies.l1_key;
-    let l2_key = bodies.l2_key;
-    let kdfs = place(place(line.text(b" BODIES"), kdf), kdf_parameters);
-    let agreements = place(place(kdfs, agreement), agreement_parameters);
-    let names = place(place(agreements, domain), forest);
-    place(place(names, l1_key), l2_key)
+fn show_bodies(line: &mut Line, bodies: Bodies) {
+    line.text(b" BODIES");
+    place(line, bodies.kdf);
+    place(line, bodies.kdf_parameters);
+    place(line, bodies.agreement);
+    place(line, bodies.agreement_parameters);
+    place(line, bodies.domain);
+    place(line, bodies.forest);
+    place(line, bodies.l1_key);
+    place(line, bodies.l2_key);
 }
 
-fn place(line: Line, span: Span) -> Line {
-    words::span(line.text(b" "), span)
+fn place(line: &mut Line, span: Span) {
+    line.text(b" ");
+    words::span(line, span);
 }
 
 // What was read from an accepted envelope is written into as many bytes, and they are compared.
 fn rewritten(rt: &impl Print, head: Head, s: &[u8]) -> io::Result<()> {
     let mut out = [0; 65536];
     if s.len() <= out.len() {
-        let line = Line::new().text(b"envelope rewritten: ");
-        print(rt, rewrite(line, &mut out[0..s.len()], head, s))?;
+        let mut line = Line::new();
+        line.text(b"envelope rewritten: ");
+        rewrite(&mut line, &mut out[0..s.len()], head, s);
+        print(rt, line)?;
     }
     Ok(())
 }
 
-fn rewrite(line: Line, out: &mut [u8], head: Head, s: &[u8]) -> Line {
+fn rewrite(line: &mut Line, out: &mut [u8], head: Head, s: &[u8]) {
     let answer = envelope::write(
         out,
         head,
@@ -145,5 +156,7 @@ fn rewrite(line: Line, out: &mut [u8], head: Head, s: &[u8]) -> Line {
         envelope::part(s, EnvelopePart::L1Key),
         envelope::part(s, EnvelopePart::L2Key),
     );
-    cases::compared(words::written(line, answer).text(b" "), out, s)
+    words::written(line, answer);
+    line.text(b" ");
+    cases::compared(line, out, s);
 }

@@ -3,8 +3,7 @@ use crate::print;
 use cases::FILL;
 use envelope::Head;
 use gkid::{Gkid, L0, L1, L2};
-use line::Line;
-use records::Written;
+use line::{Line, Text};
 use rootid::RootId;
 use std::io;
 
@@ -177,23 +176,23 @@ fn put(
 ) -> io::Result<()> {
     let zeros = [0; 65536];
     let mut out = [FILL; 200];
-    print(
-        rt,
-        written(
-            Line::new().text(name),
-            &mut out,
-            room,
-            head,
-            cases::first(&kdf, n),
-            cases::first(&zeros, kdf_parameters),
-            cases::first(&zeros, l1_key),
-            cases::first(&zeros, l2_key),
-        ),
-    )
+    let mut line = Line::new();
+    line.text(name);
+    written(
+        &mut line,
+        &mut out,
+        room,
+        head,
+        cases::first(&kdf, n),
+        cases::first(&zeros, kdf_parameters),
+        cases::first(&zeros, l1_key),
+        cases::first(&zeros, l2_key),
+    );
+    print(rt, line)
 }
 
 fn written(
-    line: Line,
+    line: &mut Line,
     out: &mut [u8],
     room: usize,
     head: Head,
@@ -201,25 +200,22 @@ fn written(
     kdf_parameters: &[u8],
     l1_key: &[u8],
     l2_key: &[u8],
-) -> Line {
+) {
     if room <= out.len() {
         let answer = write_into(&mut out[0..room], head, kdf, kdf_parameters, l1_key, l2_key);
-        return shown(line, answer, out);
+        shown(line, answer, out);
     }
-    line
 }
 
 // The answer; the record that was written, as it reads back; and whether the output behind it, or all of it on a refusal, is as it was.
-pub fn shown(line: Line, answer: Written, out: &[u8]) -> Line {
-    let told = words::written(line, answer);
+pub fn shown(line: &mut Line, answer: Result<usize, Refusal>, out: &[u8]) {
+    words::written(line, answer);
     if let Ok(len) = answer {
-        return kept(
-            envline::shown(told.text(b" "), cases::first(out, len)),
-            out,
-            len,
-        );
+        line.text(b" ");
+        envline::shown(line, cases::first(out, len));
+        return kept(line, out, len);
     }
-    kept(told, out, 0)
+    kept(line, out, 0)
 }
 
 fn write_into(
@@ -229,7 +225,7 @@ fn write_into(
     kdf_parameters: &[u8],
     l1_key: &[u8],
     l2_key: &[u8],
-) -> Written {
+) -> Result<usize, Refusal> {
     let empty = [0; 2];
     let text = &empty[..];
     let none = cases::first(text, 0);
@@ -248,9 +244,10 @@ fn write_into(
 }
 
 // Whether the output from len on is as it was.
-fn kept(line: Line, out: &[u8], len: usize) -> Line {
+fn kept(line: &mut Line, out: &[u8], len: usize) {
     let before = [FILL; 200];
-    cases::kept(line.text(b" "), &before, out, len)
+    line.text(b" ");
+    cases::kept(line, &before, out, len);
 }
 
 pub fn head_at(flags: u32, l1: u32, l2: u32, public_length: u32) -> Head {

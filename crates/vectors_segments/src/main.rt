@@ -6,9 +6,8 @@ mod reader;
 mod sizes;
 mod writer;
 
-use line::Line;
+use line::{Line, Text};
 use std::io;
-use wire::Span;
 
 // The bytes from 20 on of a header with three blocks: two zeros, the three shifts, 01 and the block count.
 const THREE: [u8; 8] = [0, 0, 12, 12, 9, 1, 3, 0];
@@ -35,9 +34,7 @@ fn put(s: &mut [u8], front: [u32; 5], fixed: [u8; 8], sizes: &[u32]) {
 }
 
 // A finished line, on standard output.
-fn print(rt: &impl Print, line: Line) -> io::Result<()> {
-    let ended = line.text(b"\n");
-    let bytes = ended.bytes;
-    let len = ended.len;
-    rt.write_all(wire::part(&bytes, Span { at: 0, len }))
+fn print(rt: &impl Print, mut line: Line) -> io::Result<()> {
+    line.text(b"\n");
+    rt.write_all(line.as_bytes())
 }

@@ -1,7 +1,7 @@
 // Headers read.
 use crate::{MOST, THREE, front, print, put};
-use line::Line;
-use segment::{Head, Segment, SegmentRead};
+use line::{Line, Text};
+use segment::{Head, Segment};
 use std::io;
 use wire::Span;
 
@@ -237,7 +237,10 @@ fn header(
 ) -> io::Result<()> {
     let mut s = [255; 65536];
     put(&mut s, front, fixed, &sizes);
-    print(rt, read(Line::new().text(name), cases::first(&s, len)))
+    let mut line = Line::new();
+    line.text(name);
+    read(&mut line, cases::first(&s, len));
+    print(rt, line)
 }
 
 // A header of len bytes, with 16,377 sizes of 4097.
@@ -245,13 +248,13 @@ fn most(rt: &impl Print, name: &[u8], len: u32, fixed: [u8; 8]) -> io::Result<()
     let mut s = [255; 65536];
     let sizes = [4097; 16377];
     put(&mut s, front(len), fixed, &sizes);
-    print(
-        rt,
-        read(Line::new().text(name), cases::first(&s, len as usize)),
-    )
+    let mut line = Line::new();
+    line.text(name);
+    read(&mut line, cases::first(&s, len as usize));
+    print(rt, line)
 }
 
-pub fn read(line: Line, s: &[u8]) -> Line {
+pub fn read(line: &mut Line, s: &[u8]) {
     match segment::read(s) {
         Ok(segment) => shown(line, segment),
         Err(refusal) => words::refused(line, refusal),
@@ -259,40 +262,38 @@ pub fn read(line: Line, s: &[u8]) -> Line {
 }
 
 // What an accepted header shows.
-fn shown(line: Line, segment: Segment) -> Line {
+fn shown(line: &mut Line, segment: Segment) {
     let head = segment.head;
-    let numbers = numbered(line, head, segment.length);
-    sized(
-        shifted(numbers, head),
-        segment.blocks,
-        segment.sizes,
-        segment.larger,
-    )
+    numbered(line, head, segment.length);
+    shifted(line, head);
+    sized(line, segment.blocks, segment.sizes, segment.larger);
 }
 
-fn numbered(line: Line, head: Head, length: u32) -> Line {
-    line.text(b"START ")
-        .number(head.start_offset)
-        .text(b" LENGTH ")
-        .number(length as u64)
-        .text(b" STREAM ")
-        .number(head.bytes_in_stream as u64)
-        .text(b" VDL ")
-        .number(head.bytes_in_vdl as u64)
+fn numbered(line: &mut Line, head: Head, length: u32) {
+    line.text(b"START ");
+    line.number(head.start_offset);
+    line.text(b" LENGTH ");
+    line.number(length as u64);
+    line.text(b" STREAM ");
+    line.number(head.bytes_in_stream as u64);
+    line.text(b" VDL ");
+    line.number(head.bytes_in_vdl as u64);
 }
 
-fn shifted(line: Line, head: Head) -> Line {
-    line.text(b" SHIFTS ")
-        .number(head.unit_shift as u64)
-        .text(b" ")
-        .number(head.chunk_shift as u64)
-        .text(b" ")
-        .number(head.cluster_shift as u64)
+fn shifted(line: &mut Line, head: Head) {
+    line.text(b" SHIFTS ");
+    line.number(head.unit_shift as u64);
+    line.text(b" ");
+    line.number(head.chunk_shift as u64);
+    line.text(b" ");
+    line.number(head.cluster_shift as u64);
 }
 
-fn sized(line: Line, blocks: u32, sizes: Span, larger: u32) -> Line {
-    let counted = line.text(b" BLOCKS ").number(blocks as u64);
-    words::span(counted.text(b" SIZES "), sizes)
-        .text(b" LARGER ")
-        .number(larger as u64)
+fn sized(line: &mut Line, blocks: u32, sizes: Span, larger: u32) {
+    line.text(b" BLOCKS ");
+    line.number(blocks as u64);
+    line.text(b" SIZES ");
+    words::span(line, sizes);
+    line.text(b" LARGER ");
+    line.number(larger as u64);
 }

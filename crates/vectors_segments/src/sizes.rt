@@ -1,6 +1,6 @@
 // The size of one block, asked for by its index.
 use crate::{MOST, THREE, front, print, put};
-use line::Line;
+use line::{Line, Text};
 use segment::SizeRead;
 use std::io;
 
@@ -36,10 +36,10 @@ fn others(rt: &impl Print) -> io::Result<()> {
 fn asked(rt: &impl Print, name: &[u8], index: usize, fixed: [u8; 8]) -> io::Result<()> {
     let mut s = [255; 64];
     put(&mut s, front(40), fixed, &[4096, 4097, 0]);
-    print(
-        rt,
-        size(Line::new().text(name), cases::first(&s, 40), index),
-    )
+    let mut line = Line::new();
+    line.text(name);
+    size(&mut line, cases::first(&s, 40), index);
+    print(rt, line)
 }
 
 // A header of 16,376 blocks, with 16,377 sizes.
@@ -47,15 +47,18 @@ fn last(rt: &impl Print, name: &[u8], index: usize) -> io::Result<()> {
     let mut s = [255; 65536];
     let sizes = [4097; 16377];
     put(&mut s, front(65_535), MOST, &sizes);
-    print(
-        rt,
-        size(Line::new().text(name), cases::first(&s, 65_535), index),
-    )
+    let mut line = Line::new();
+    line.text(name);
+    size(&mut line, cases::first(&s, 65_535), index);
+    print(rt, line)
 }
 
-fn size(line: Line, s: &[u8], index: usize) -> Line {
+fn size(line: &mut Line, s: &[u8], index: usize) {
     match segment::size(s, index) {
-        Ok(Some(bytes)) => line.text(b"SIZE ").number(bytes as u64),
+        Ok(Some(bytes)) => {
+            line.text(b"SIZE ");
+            line.number(bytes as u64);
+        }
         Ok(None) => line.text(b"NONE"),
         Err(refusal) => words::refused(line, refusal),
     }

@@ -1,9 +1,8 @@
 // Headers written, and read back.
 use crate::{MOST, THREE, front, print, put, reader};
 use cases::FILL;
-use line::Line;
-use records::Written;
-use segment::{Head, SegmentRead, SizeRead};
+use line::{Line, Text};
+use segment::{Head, SizeRead};
 use std::io;
 use wire::Span;
 
@@ -155,52 +154,46 @@ fn write(
     sizes: &[u32],
 ) -> io::Result<()> {
     let mut out = [FILL; 65536];
-    print(
-        rt,
-        written(
-            Line::new().text(name),
-            &mut out,
-            room,
-            head,
-            length,
-            fixed,
-            sizes,
-        ),
-    )
+    let mut line = Line::new();
+    line.text(name);
+    written(&mut line, &mut out, room, head, length, fixed, sizes);
+    print(rt, line)
 }
 
 fn written(
-    line: Line,
+    line: &mut Line,
     out: &mut [u8],
     room: usize,
     head: Head,
     length: u32,
     fixed: [u8; 8],
     sizes: &[u32],
-) -> Line {
+) {
     if room <= out.len() {
         let answer = segment::write(&mut out[0..room], head, sizes);
-        let told = words::written(line, answer);
+        words::written(line, answer);
         if let Ok(len) = answer {
-            let back = reader::read(told.text(b" "), cases::first(out, len));
-            return same(back, out, length, fixed, sizes);
+            line.text(b" ");
+            reader::read(line, cases::first(out, len));
+            return same(line, out, length, fixed, sizes);
         }
-        return kept(told, out);
+        kept(line, out);
     }
-    line
 }
 
 // Whether the output is that header, and behind it as it was.
-fn same(line: Line, out: &[u8], length: u32, fixed: [u8; 8], sizes: &[u32]) -> Line {
+fn same(line: &mut Line, out: &[u8], length: u32, fixed: [u8; 8], sizes: &[u32]) {
     let mut expected = [FILL; 65536];
     put(&mut expected, front(length), fixed, sizes);
-    cases::compared(line.text(b" "), out, &expected)
+    line.text(b" ");
+    cases::compared(line, out, &expected);
 }
 
 // Whether the output is as it was.
-fn kept(line: Line, out: &[u8]) -> Line {
+fn kept(line: &mut Line, out: &[u8]) {
     let before = [FILL; 65536];
-    cases::kept(line.text(b" "), &before, out, 0)
+    line.text(b" ");
+    cases::kept(line, &before, out, 0);
 }
 
 // What was read from a header of two blocks is written: before Length, behind it, and as a whole.
@@ -212,19 +205,20 @@ fn rewritten(rt: &impl Print, name: &[u8], len: u32) -> io::Result<()> {
         [0, 0, 12, 12, 9, 1, 2, 0],
         &[4096, 4097],
     );
-    print(
-        rt,
-        rewrite(Line::new().text(name), cases::first(&s, len as usize)),
-    )
+    let mut line = Line::new();
+    line.text(name);
+    rewrite(&mut line, cases::first(&s, len as usize));
+    print(rt, line)
 }
 
-fn rewrite(line: Line, s: &[u8]) -> Line {
+fn rewrite(line: &mut Line, s: &[u8]) {
     match segment::read(s) {
         Ok(segment) => {
             let mut out = [FILL; 36];
             let sizes = [size_at(s, 0), size_at(s, 1)];
             let answer = segment::write(&mut out, segment.head, &sizes);
-            compared(words::written(line, answer), &out, s)
+            words::written(line, answer);
+            compared(line, &out, s);
         }
         Err(refusal) => words::refused(line, refusal),
     }
@@ -238,13 +232,12 @@ fn size_at(s: &[u8], index: usize) -> u32 {
     }
 }
 
-fn compared(line: Line, out: &[u8], s: &[u8]) -> Line {
+fn compared(line: &mut Line, out: &[u8], s: &[u8]) {
     let behind = Span { at: 12, len: 24 };
-    let before = cases::compared(line.text(b" "), cases::first(out, 8), cases::first(s, 8));
-    let rest = cases::compared(
-        before.text(b" "),
-        wire::part(out, behind),
-        wire::part(s, behind),
-    );
-    cases::compared(rest.text(b" "), out, s)
+    line.text(b" ");
+    cases::compared(line, cases::first(out, 8), cases::first(s, 8));
+    line.text(b" ");
+    cases::compared(line, wire::part(out, behind), wire::part(s, behind));
+    line.text(b" ");
+    cases::compared(line, out, s);
 }

@@ -2,10 +2,9 @@
 // the library answers. The file `stdout` beside src/ holds what the paper says.
 #![tactic(auto)]
 
-use gkid::{FileTime, Gkid, L0, L1, L2, Older, Start};
-use line::Line;
+use gkid::{FileTime, Gkid, L0, L1, L2};
+use line::{Line, Text};
 use std::io;
-use wire::Span;
 
 fn main(rt: HostRuntime) -> io::Result<()> {
     times(&rt)?;
@@ -126,30 +125,35 @@ fn time(rt: &impl Print, name: &[u8], ticks: u64) -> io::Result<()> {
 }
 
 fn identifier(rt: &impl Print, name: &[u8], at: Gkid) -> io::Result<()> {
-    print(rt, words::identifier(Line::new().text(name), at))
+    let mut line = Line::new();
+    line.text(name);
+    words::identifier(&mut line, at);
+    print(rt, line)
 }
 
 fn start(rt: &impl Print, name: &[u8], l0: u32, l1: u32, l2: u32) -> io::Result<()> {
-    let line = Line::new().text(name);
+    let mut line = Line::new();
+    line.text(name);
     match gkid(l0, l1, l2).start() {
-        Ok(time) => print(rt, line.number(time.0)),
-        Err(refusal) => print(rt, words::refused(line, refusal)),
+        Ok(time) => line.number(time.0),
+        Err(refusal) => words::refused(&mut line, refusal),
     }
+    print(rt, line)
 }
 
 fn older(rt: &impl Print, name: &[u8], l0: u32, l1: u32, l2: u32) -> io::Result<()> {
-    let line = Line::new().text(name);
+    let mut line = Line::new();
+    line.text(name);
     match gkid(l0, l1, l2).older() {
-        Ok(Some(i)) => print(rt, words::identifier(line, i)),
-        Ok(None) => print(rt, line.text(b"NONE")),
-        Err(refusal) => print(rt, words::refused(line, refusal)),
+        Ok(Some(i)) => words::identifier(&mut line, i),
+        Ok(None) => line.text(b"NONE"),
+        Err(refusal) => words::refused(&mut line, refusal),
     }
+    print(rt, line)
 }
 
 // A finished line, on standard output.
-fn print(rt: &impl Print, line: Line) -> io::Result<()> {
-    let ended = line.text(b"\n");
-    let bytes = ended.bytes;
-    let len = ended.len;
-    rt.write_all(wire::part(&bytes, Span { at: 0, len }))
+fn print(rt: &impl Print, mut line: Line) -> io::Result<()> {
+    line.text(b"\n");
+    rt.write_all(line.as_bytes())
 }

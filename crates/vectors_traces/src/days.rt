@@ -1,6 +1,6 @@
 // Traces of several records, each for the latest with seed rights and the verdict yes unless it says otherwise: byte 0x50. The byte 0x51 has a
 // spare bit set, which is 26; 0x40 has the verdict no, which is 16.
-use crate::{LATEST, NOW, print, recorded, told};
+use crate::{LATEST, NOW, recorded, told};
 use std::io;
 
 pub fn run(rt: &impl Print) -> io::Result<()> {
@@ -81,5 +81,5 @@ fn trace(clocks: [u64; 3], flags: [u8; 3]) -> [u8; 111] {
 fn day(rt: &impl Print, name: &[u8], table: &[u8], trace: &[u8]) -> io::Result<()> {
     let state = told(rt, name, table, trace)?;
     let tally = state.tally;
-    print(rt, report::total_line(tally))
+    rt.write_all(report::total_line(tally).as_bytes())
 }

@@ -5,7 +5,6 @@
 mod days;
 mod single;
 
-use line::Line;
 use report::State;
 use std::io;
 use wire::Span;
@@ -46,17 +45,11 @@ fn put(dst: &mut [u8], at: usize, x: u32) {
 
 // The name and the lines of a trace of a few records; the state behind them.
 fn told(rt: &impl Print, name: &[u8], table: &[u8], trace: &[u8]) -> io::Result<State> {
-    print(rt, Line::new().text(name))?;
+    rt.write_all(name)?;
     let mut out = [0u8; 1024];
     let progress = report::replay(&mut out, State::new(), table, trace, true);
     let len = progress.written;
     rt.write_all(wire::part(&out, Span { at: 0, len }))?;
     let state = progress.state;
     Ok(state)
-}
-
-fn print(rt: &impl Print, line: Line) -> io::Result<()> {
-    let bytes = line.bytes;
-    let len = line.len;
-    rt.write_all(wire::part(&bytes, Span { at: 0, len }))
 }

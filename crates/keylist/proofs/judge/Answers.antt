@@ -2,7 +2,7 @@
 use Rattle.lemmas.proofs.Basics.{◌-◌, arith, sub-zero, ◌≡◌, sym, ap, ◌∙◌, lt-ltb, le-ltb, eq-eqb, ne_eqb}
 use Rattle.refusal.specs.Chain.{first_of, unless_refused}
 use Rattle.keylist.specs.Reading.{count_of, list_checks, entries_from, list_of}
-use Rattle.keylist.proofs.Stepping.{within, turn_refused, turn_on}
+use Rattle.keylist.proofs.Stepping.{within, entry_lies, turn_refused, turn_on}
 use Rattle.keylist.proofs.judge.Goals as goal
 
 pub returns-then-list-gt-LIMIT : goal.returns-then-list-gt-LIMIT
@@ -17,16 +17,15 @@ pub loop-index-init : goal.loop-index-init
 unfolding list_of unless_refused
 loop-index-init c = (omega arith, rw (within _ c.if-list-gt-LIMIT.false c.if-list-lt4.false, sub-zero))
 
--- past a record that is accepted
+-- past an entry that is accepted
 pub overflow_add-at : goal.overflow_add-at
 overflow_add-at c =
-    let turned = turn_on c.args.list.now c.loop-index.at c.loop-index.index c.in-Ok.span (omega (arith, c.le32_at-count.ensures)) (sym c.in-Ok.ensures) in
-    omega (arith, ap (λ x. x.len) turned.0.is, turned.0.low, turned.0.high)
+    let lies = (entry_lies c.args.list.now c.loop-index.at _ _ (sym c.in-Ok.ensures)).0 in
+    omega (arith, ap (λ x. x.len) lies.is, lies.high)
 
 pub loop-index-preserved : goal.loop-index-preserved
 loop-index-preserved c =
-    let turned = turn_on c.args.list.now c.loop-index.at c.loop-index.index c.in-Ok.span (omega (arith, c.le32_at-count.ensures)) (sym c.in-Ok.ensures) in
-    (omega (arith, c.le32_at-count.ensures), sym turned.1 ∙ c.loop-index.invariant.1)
+    (omega (arith, c.le32_at-count.ensures), sym (turn_on _ _ _ _ _ (omega (arith, c.le32_at-count.ensures)) (sym c.in-Ok.ensures)) ∙ c.loop-index.invariant.1)
 
 pub returns-in-Err : goal.returns-in-Err
 returns-in-Err c =

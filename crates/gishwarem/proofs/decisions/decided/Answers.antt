@@ -2,4 +2,4 @@
 use Rattle.gishwarem.proofs.decisions.decided.Goals as goal
 
 pub returns : goal.returns
-returns c = rw (c.decision_answer.ensures, c.decide_by_verdict.ensures, c.request_from.ensures, c.rights_from.ensures)
+returns c = rw (c.into-2.ensures, c.decide_by_verdict.ensures, c.into.ensures, c.rights_from.ensures)
