@@ -9,7 +9,6 @@ ghost use Rattle.envelope.specs.Reading.{envelope_of};
 ghost use Rattle.line.specs.Text.{text_of};
 ghost use Rattle.envline.specs.Line.{line_of};
 
-use input::Input;
 use line::Line;
 use std::fmt;
 use std::io::{Read, Write};
@@ -45,13 +44,13 @@ fn run<R: Read, W: Write>(from: &mut R, to: &mut W) -> Result<(), Failure>
     ensures unread { result ≡ Err Failure.Read → Keeps (W.contents to.old) (W.contents to.new) }
 {
     let mut buffer = [0; 65536];
-    match input::read_all(from, &mut buffer) {
-        Input::Bytes(len) => print(
-            to,
-            envline::line_of(wire::part(&buffer, Span { at: 0, len })),
-        ),
-        Input::Failed => Err(Failure::Read),
-    }
+    let Ok(len) = input::read_all(from, &mut buffer) else {
+        return Err(Failure::Read);
+    };
+    print(
+        to,
+        envline::line_of(wire::part(&buffer, Span { at: 0, len })),
+    )
 }
 
 // Where it fails, it is the write that failed.

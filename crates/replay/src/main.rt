@@ -11,7 +11,6 @@ ghost use Rattle.report.specs.Lines.{lines_from, total_line};
 ghost use Rattle.report.specs.Replaying.{after, report_of};
 ghost use Rattle.replay.specs.Cut.{OnlyLines};
 
-use input::Input;
 use report::{State, Stopped};
 use std::env::{Env, FillError};
 use std::fmt;
@@ -84,8 +83,8 @@ fn read_table<R: Files>(rt: &R, path: &[u8], table: &mut [u8]) -> Result<usize, 
         return Err(Failure::Table);
     };
     match input::read_all(&mut file, table) {
-        Input::Bytes(len) => Ok(len),
-        Input::Failed => Err(Failure::Table),
+        Ok(len) => Ok(len),
+        Err(_) => Err(Failure::Table),
     }
 }
 
@@ -100,7 +99,7 @@ fn replay_trace<R: Read, W: Write>(from: &mut R, to: &mut W, table: &[u8]) -> Re
     let mut out = [0; 65536];
     let mut state = State::new();
     for _ in 0..u64::MAX {
-        let Input::Bytes(len) = input::read_all(from, &mut chunk) else {
+        let Ok(len) = input::read_all(from, &mut chunk) else {
             return Err(Failure::Read);
         };
         let ends = len < CHUNK;

@@ -20,6 +20,6 @@ loop-at-preserved g c =
     let inside = c.loop-at.invariant.0 in (
       search rules,
       search rules,
-      subst (Consumes _ _) (front c.loop-at.at c.in-Ok.more c.loop-at.buffer c.read.new.buf inside c.in-Ok.ensures.bound.0)
-          (Consumes-trans _ _ _ _ _ c.loop-at.invariant.2 c.in-Ok.ensures.bytes.0),
+      subst (Consumes _ _) (front c.loop-at.at c.in_ok-more.more c.loop-at.buffer c.read.new.buf inside c.in_ok-more.ensures.bound.0)
+          (Consumes-trans _ _ _ _ _ c.loop-at.invariant.2 c.in_ok-more.ensures.bytes.0),
     )

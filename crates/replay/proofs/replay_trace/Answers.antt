@@ -17,15 +17,15 @@ loop-init g c = begun _ _ _ _ c.new-state.ensures
 pub loop-preserved : goal.loop-preserved
 loop-preserved g c =
     let read = c.read_all in
-    goes_on _ _ _ _ _ _ c.loop.invariant read.new.buffer c.part-records.result.now c.in-Bytes.len c.in-Bytes.ensures.within c.part-records.ensures.bytes _ c.in-Bytes.ensures.bytes
-    1771 (omega (arith, c.in-Bytes.ensures.within)) _ (le-ltb c.in-Bytes.len 65527 c.if-ends.false) _ _ c.in_ok-state.ensures.state c.in_ok-state.ensures.text
+    goes_on _ _ _ _ _ _ c.loop.invariant read.new.buffer c.part-records.result.now c.in-Ok.len c.in-Ok.ensures.within c.part-records.ensures.bytes _ c.in-Ok.ensures.bytes
+    1771 (omega (arith, c.in-Ok.ensures.within)) _ (le-ltb c.in-Ok.len 65527 c.if-ends.false) _ _ c.in_ok-state.ensures.state c.in_ok-state.ensures.text
 
 pub returns-then-ends-clause-whole : goal.returns-then-ends-clause-whole
 returns-then-ends-clause-whole g c =
     let read = c.read_all in
     on_ok_weaker c.print_total.result
-    (λ total. reported _ _ _ _ _ _ c.loop.invariant read.new.buffer c.part-records.result.now c.in-Bytes.len c.in-Bytes.ensures.within c.part-records.ensures.bytes _ c.in-Bytes.ensures.bytes
-    (c.in-Bytes.ensures.whole (omega arith)) _ (lt-ltb c.in-Bytes.len 65527 c.if-ends.true) _ _ _ c.in_ok-state.ensures.state c.in_ok-state.ensures.text total)
+    (λ total. reported _ _ _ _ _ _ c.loop.invariant read.new.buffer c.part-records.result.now c.in-Ok.len c.in-Ok.ensures.within c.part-records.ensures.bytes _ c.in-Ok.ensures.bytes
+    (c.in-Ok.ensures.whole (omega arith)) _ (lt-ltb c.in-Ok.len 65527 c.if-ends.true) _ _ _ c.in_ok-state.ensures.state c.in_ok-state.ensures.text total)
     c.print_total.ensures.written
 
 pub returns-in_err-state-clause-cut : goal.returns-in_err-state-clause-cut
