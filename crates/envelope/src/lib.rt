@@ -7,7 +7,7 @@ ghost use Rattle.wire.specs.Parts.{onto, joined};
 ghost use Rattle.records.specs.Writing.{output_of};
 ghost use Rattle.keys.specs.KeyRule.{key_checks};
 ghost use Rattle.keys.specs.Forms.{keys_of};
-ghost use Rattle.envelope.specs.Layout.{head_of, is_public, lengths_of, end_at, bodies_of, body_of};
+ghost use Rattle.envelope.specs.Layout.{head_of, is_public, lengths_of, end_at, bodies_of, body};
 ghost use Rattle.envelope.specs.Reading.{head_checks, four_texts, layout_checks, envelope_checks, shown, envelope_of, span_of, envelope_span, envelope_part, form_of};
 ghost use Rattle.envelope.specs.Writing.{given_in, given_lengths, envelope_length, head_pieces, envelope_bytes, write_checks, envelope_written};
 
@@ -80,8 +80,9 @@ pub fn span_of(read: Result<Envelope, Refusal>, which: EnvelopePart) -> Span
 }
 
 impl<T: Copy> Bodies<T> {
+    // Of the eight the one that is asked for.
     fn body(self, which: EnvelopePart) -> T
-        ensures { result ≡ body_of self which }
+        ensures { result ≡ body self which }
     {
         match which {
             EnvelopePart::Kdf => self.kdf,

@@ -23,7 +23,7 @@ use Rattle.reach.proofs.KeyLaws.{not_by_both}
 use Rattle.reach.proofs.ReachLaws.{group_is, no_key}
 use Rattle.envelope.specs.declared.EnvelopePart.{EnvelopePart}
 use Rattle.envelope.specs.declared.EnvelopePart.TheVariants.{L1Key, L2Key}
-use Rattle.envelope.specs.Layout.{is_public, body_span, head_of, lengths_of, bodies_of}
+use Rattle.envelope.specs.Layout.{is_public, body, head_of, lengths_of, bodies_of}
 use Rattle.envelope.specs.Reading.{envelope_checks, envelope_of, envelope_number, shown, span_of, envelope_part, form_of}
 use Rattle.envelope.proofs.Reading.{accepted-shown, part_inside}
 use Rattle.envelope.proofs.ExactlyWhen.{accepted-keys}
@@ -59,7 +59,7 @@ Says s root i None = Serves s root i → ⊥
 -- An accepted envelope.
 module _ (s : List ℕ) (i : Gkid) (z : envelope_number (envelope_of s) ≡ 0) where
   abbrev place : SeedKey → Span
-  place key = body_span (bodies_of (lengths_of s)) (body_of key)
+  place key = body (bodies_of (lengths_of s)) (body_of key)
 
   -- a key of 64 bytes that reaches
   key_is : (key : SeedKey) → (place key).len ≡ 64 → key_reaches key (head_of s).at i ≡ true → Key s i key (part_of s (place key).at (place key).len)
@@ -79,7 +79,7 @@ module _ (s : List ℕ) (i : Gkid) (z : envelope_number (envelope_of s) ≡ 0) w
       record { accepted = z; has_root = same; has_l0 = sym (group_is (head_of s).at i (both_true (of_group (head_of s).at i) _ bit).0).0; reached = bit }
 
   key_says : (root : RootId) → (head_of s).root ≡ root → Says s root i (key_for (shown s) i)
-  unfolding key_for reaches shown bodies_of body_span
+  unfolding key_for reaches shown bodies_of body
   key_says root same =
       let keys = keys_of (form_of (shown s)) in
       cond_cases (Says s root i) (keys.l2 && l2_reaches (head_of s).at i)
