@@ -4,12 +4,12 @@ use Rattle.gishwarem.proofs.envelopes.gw_envelope_read.Goals as goal
 
 pub returns-in-Err : goal.returns-in-Err
 returns-in-Err c =
-    rw (c.envelope_refused.ensures, head_refused _ c.judge_head.ensures c.in-Err.is)
+    rw (c.from.ensures, head_refused _ c.judge_head.ensures c.in-Err.is)
 
 pub returns-in-Ok : goal.returns-in-Ok
 returns-in-Ok c =
-    rw (c.envelope_answer.ensures, ← c.read.ensures, c.in-Ok.is)
+    rw (c.from-in-Ok.ensures, ← c.read.ensures, c.in-Ok.is)
 
 pub returns-in-Err-read : goal.returns-in-Err-read
 returns-in-Err-read c =
-    rw (c.envelope_refused-in-Err-read.ensures, ← c.read.ensures, c.in-Err-read.is)
+    rw (c.from-in-Err-read.ensures, ← c.read.ensures, c.in-Err-read.is)
