@@ -101,8 +101,7 @@ impl<T: Copy> Bodies<T> {
 pub fn form_of(envelope: Envelope) -> Form
     ensures { result ≡ form_of envelope }
 {
-    let bodies = envelope.bodies;
-    let head = envelope.head;
+    let Envelope { head, bodies } = envelope;
     if (bodies.l1_key.len == 0) & (bodies.l2_key.len == 0) {
         return Form::Keyless;
     }
@@ -122,8 +121,7 @@ pub fn form_of(envelope: Envelope) -> Form
 pub fn seed_keys_of(envelope: Envelope) -> SeedKeys
     ensures { result ≡ keys_of (form_of envelope) }
 {
-    let bodies = envelope.bodies;
-    let head = envelope.head;
+    let Envelope { head, bodies } = envelope;
     let seed = !is_public(head.flags);
     SeedKeys {
         l1: seed & (bodies.l1_key.len != 0),
@@ -168,8 +166,7 @@ fn judge_layout(s: &[u8]) -> Result<(), Refusal>
     ensures { result ≡ first_of (layout_checks s.now) }
 {
     let head = head_of(s);
-    let at = head.at;
-    if at.index_above_31() {
+    if head.at.index_above_31() {
         return Err(Refusal::IndexAbove31);
     }
     let n = lengths_of(s);
@@ -215,10 +212,9 @@ fn judge_texts(kdf: &[u8], agreement: &[u8], domain: &[u8], forest: &[u8]) -> Re
 fn judge_keys(head: Head, l1_length: usize, l2_length: usize) -> Result<(), Refusal>
     ensures { result ≡ first_of (key_checks (is_public head.flags) head.at head.public_length l1_length l2_length) }
 {
-    let at = head.at;
     keys::judge(
         is_public(head.flags),
-        at,
+        head.at,
         head.public_length as usize,
         l1_length,
         l2_length,
@@ -344,8 +340,7 @@ fn judge_given(head: Head, bodies: Bodies<&[u8]>) -> Result<(), Refusal>
     if LIMIT < capped(bodies) {
         return Err(Refusal::TooLong);
     }
-    let at = head.at;
-    if at.index_above_31() {
+    if head.at.index_above_31() {
         return Err(Refusal::IndexAbove31);
     }
     judge_texts(bodies.kdf, bodies.agreement, bodies.domain, bodies.forest)?;
@@ -419,15 +414,13 @@ fn put_head(dst: &mut [u8], head: Head, n: Bodies<usize>)
     requires room { 80 ≤ length dst.old }
     ensures { dst.new ≡ onto (joined (head_pieces head n)) dst.old }
 {
-    let at = head.at;
-    let root = head.root;
     let front = [
         head.version,
         0x4B53444B,
         head.flags,
-        at.l0.0,
-        at.l1.0,
-        at.l2.0,
+        head.at.l0.0,
+        head.at.l1.0,
+        head.at.l2.0,
     ];
     let lengths = [
         n.kdf as u32,
@@ -442,6 +435,6 @@ fn put_head(dst: &mut [u8], head: Head, n: Bodies<usize>)
         n.forest as u32,
     ];
     put_le32s(&mut dst[0..24], &front);
-    root.put(&mut dst[24..40]);
+    head.root.put(&mut dst[24..40]);
     put_le32s(&mut dst[40..80], &lengths);
 }
