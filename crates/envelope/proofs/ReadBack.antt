@@ -14,7 +14,7 @@ use Rattle.rootid.proofs.Roots.{root_bytes_lem}
 use Rattle.envelope.specs.declared.Head.{Head}
 use Rattle.envelope.specs.declared.EnvelopePart.{EnvelopePart}
 use Rattle.envelope.specs.declared.EnvelopePart.TheVariants.{Kdf, KdfParameters, Agreement, AgreementParameters, Domain, Forest, L1Key, L2Key}
-use Rattle.envelope.specs.Layout.{head_of, lengths_of, bodies_of, body_of}
+use Rattle.envelope.specs.Layout.{head_of, lengths_of, bodies_of, body}
 use Rattle.envelope.specs.Reading.{envelope_checks, shown, envelope_of, envelope_number, span_of, body_at, envelope_part}
 use Rattle.envelope.specs.WellFormed.{WellFormed}
 use Rattle.envelope.specs.Writing.{Given, given_lengths, envelope_length, envelope_bytes, write_checks, envelope_written}
@@ -25,7 +25,7 @@ use Rattle.envelope.proofs.Writing.{Fit, length-bytes, is_head, are_lengths, bod
 -- an envelope that reads as these: the head's values, and each body byte for byte
 pub record ReadsBack (s : List ℕ) (h : Head) (g : Given) : Type 0 where
   pub values : envelope_of s ≡ Ok (record { head = h; bodies = bodies_of (given_lengths g) })
-  pub bodies : (which : EnvelopePart) → envelope_part s which ≡ body_of g which
+  pub bodies : (which : EnvelopePart) → envelope_part s which ≡ body g which
 
 -- What the writer accepts reads back as given.
 pub reads_back : (h : Head) (g : Given) → Fit h → first_of (write_checks h g) ≡ Ok tt → ReadsBack (envelope_bytes h g) h g
@@ -49,7 +49,7 @@ body_stands : (s : List ℕ) → envelope_number (envelope_of s) ≡ 0 → (whic
 unfolding shown span_of
 body_stands s z which = rw (accepted-shown s z)
 
-body_long : (s : List ℕ) → WellFormed s → (which : EnvelopePart) → length (body_at s which) ≡ (body_of (bodies_of (lengths_of s)) which).len
+body_long : (s : List ℕ) → WellFormed s → (which : EnvelopePart) → length (body_at s which) ≡ (body (bodies_of (lengths_of s)) which).len
 body_long s w which = length_part s _ _ (rw (← w.lengths) (body_inside (lengths_of s) which))
 
 -- the bodies that were read
@@ -68,13 +68,13 @@ bodies_read s =
 
 -- Writing what was read from an accepted envelope gives the same bytes.
 pub rewritten : (s : List ℕ) → Bytes s → envelope_number (envelope_of s) ≡ 0 → envelope_bytes (head_of s) (bodies_read s) ≡ s
-unfolding envelope_bytes head_of lengths_of body_of bodies_of le_bytes le_of
+unfolding envelope_bytes head_of lengths_of body bodies_of le_bytes le_of
 rewritten s b z =
     let w = accepted_well_formed s b z in
     let n = lengths_of s in
     let number : (at : ℕ) → at + 4 ≤ 80 → le_bytes 4 (le_at 4 s at) ≡ part_of s at 4 = λ at h. le_part_back 4 s at b (omega (arith, w.head)) in
-    let size : (which : EnvelopePart) → length (envelope_part s which) ≡ (body_of (bodies_of n) which).len = λ which. ap length (body_stands s z which) ∙ body_long s w which in
-    let stored : (which : EnvelopePart) (at : ℕ) → at + 4 ≤ 80 → (body_of (bodies_of n) which).len ≡ le_at 4 s at → le_bytes 4 (length (envelope_part s which)) ≡ part_of s at 4 =
+    let size : (which : EnvelopePart) → length (envelope_part s which) ≡ (body (bodies_of n) which).len = λ which. ap length (body_stands s z which) ∙ body_long s w which in
+    let stored : (which : EnvelopePart) (at : ℕ) → at + 4 ≤ 80 → (body (bodies_of n) which).len ≡ le_at 4 s at → le_bytes 4 (length (envelope_part s which)) ≡ part_of s at 4 =
     λ which at h e. ap (le_bytes 4) (size which ∙ e) ∙ number at h
     in
     let lengths : List ℕ = 4 ∷ 4 ∷ 4 ∷ 4 ∷ 4 ∷ 4 ∷ 16 ∷ 4 ∷ 4 ∷ 4 ∷ 4 ∷ 4 ∷ 4 ∷ 4 ∷ 4 ∷ 4 ∷ 4 ∷ n.kdf ∷ n.kdf_parameters ∷ n.agreement ∷ n.agreement_parameters ∷ n.domain ∷ n.forest ∷ n.l1_key ∷ n.l2_key ∷ [] in
@@ -120,10 +120,10 @@ rewrites s out b z room =
 
 -- Absent means absent: of an envelope with no L1 key the part handed out for it is empty, and so is the L2 key's of one with no L2 key.
 -- The part is a function of these bytes alone: there is no state to fall back on.
-pub absent : (s : List ℕ) (which : EnvelopePart) → (body_of (bodies_of (lengths_of s)) which).len ≡ 0 → envelope_part s which ≡ []
+pub absent : (s : List ℕ) (which : EnvelopePart) → (body (bodies_of (lengths_of s)) which).len ≡ 0 → envelope_part s which ≡ []
 unfolding envelope_of unless_refused shown span_of
 absent s which none = told (first_of (envelope_checks s))
   where
     told : (o : Outcome) → part_of s (span_of (answer o (shown s)) which).at (span_of (answer o (shown s)) which).len ≡ []
-    told (Ok tt) = ap (part_of s (body_of (bodies_of (lengths_of s)) which).at) none ∙ part_empty s _
+    told (Ok tt) = ap (part_of s (body (bodies_of (lengths_of s)) which).at) none ∙ part_empty s _
     told (Err r) = part_empty s 0

@@ -17,7 +17,7 @@ use Rattle.envelope.specs.declared.Bodies.{Bodies}
 use Rattle.envelope.specs.declared.Envelope.{Envelope}
 use Rattle.envelope.specs.declared.EnvelopePart.{EnvelopePart}
 use Rattle.envelope.specs.declared.EnvelopePart.TheVariants.{Kdf, KdfParameters, Agreement, AgreementParameters, Domain, Forest, L1Key, L2Key}
-use Rattle.envelope.specs.Layout.{mark, head_of, is_public, lengths_of, end_at, bodies_of, body_of}
+use Rattle.envelope.specs.Layout.{mark, head_of, is_public, lengths_of, end_at, bodies_of, body}
 use Rattle.envelope.specs.Reading.{body_at, head_checks, four_texts, body_checks, layout_checks, envelope_checks, shown, envelope_of, envelope_number, span_of, envelope_span}
 
 -- the answer of an outcome
@@ -34,7 +34,7 @@ pub layout_judged : (s : List ℕ) {h : Head} {n : Bodies ℕ} {b : Bodies Span}
     → index_above_31 h.at ≡ false → end_at n ≡ length s
     → texts ≡ first_of (four_texts (part_of s b.kdf.at b.kdf.len) (part_of s b.agreement.at b.agreement.len) (part_of s b.domain.at b.domain.len) (part_of s b.forest.at b.forest.len))
     → keys ≡ first_of (key_checks (is_public h.flags) h.at h.public_length n.l1_key n.l2_key) → goes_on texts keys ≡ first_of (layout_checks s)
-unfolding layout_checks body_checks body_of
+unfolding layout_checks body_checks body
 layout_judged s is_head is-lengths is-bodies indices lengths texts keys =
     rw (← is_head, ← is-lengths, ← is-bodies) (then_first _ _ texts keys ∙ sym (first_next _ _ _ indices ∙ first_next _ _ _ (ap not (eq-eqb _ _ lengths))))
 
@@ -94,8 +94,8 @@ passes s p =
     pass_accepted (envelope_checks s) (p.limit, (p.head, (p.marked, (p.indices, (p.lengths, accepted_pass _ bodies)))))
 
 -- Each body lies inside the envelope.
-pub body_inside : (n : Bodies ℕ) (which : EnvelopePart) → (body_of (bodies_of n) which).at + (body_of (bodies_of n) which).len ≤ end_at n
-unfolding body_of bodies_of
+pub body_inside : (n : Bodies ℕ) (which : EnvelopePart) → (body (bodies_of n) which).at + (body (bodies_of n) which).len ≤ end_at n
+unfolding body bodies_of
 body_inside n Kdf = omega arith
 body_inside n KdfParameters = omega arith
 body_inside n Agreement = omega arith

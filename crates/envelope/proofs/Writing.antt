@@ -16,7 +16,7 @@ use Rattle.envelope.specs.declared.Head.{Head}
 use Rattle.envelope.specs.declared.Bodies.{Bodies}
 use Rattle.envelope.specs.declared.EnvelopePart.{EnvelopePart}
 use Rattle.envelope.specs.declared.EnvelopePart.TheVariants.{Kdf, KdfParameters, Agreement, AgreementParameters, Domain, Forest, L1Key, L2Key}
-use Rattle.envelope.specs.Layout.{mark, head_of, lengths_of, bodies_of, body_of}
+use Rattle.envelope.specs.Layout.{mark, head_of, lengths_of, bodies_of, body}
 use Rattle.envelope.specs.Reading.{head_checks, body_checks, layout_checks, envelope_checks}
 use Rattle.envelope.proofs.Reading.{passed}
 use Rattle.envelope.specs.Writing.{Given, given_lengths, envelope_length, head_pieces, body_pieces, pieces, envelope_bytes, write_checks}
@@ -76,8 +76,8 @@ module _ (h : Head) (g : Given) (fit : Fit h) (small : envelope_length g ≤ 655
       }
 
 -- The body where the lengths place it is the body that was given.
-pub body_is : (h : Head) (g : Given) (which : EnvelopePart) → part_of (envelope_bytes h g) (body_of (bodies_of (given_lengths g)) which).at (body_of (bodies_of (given_lengths g)) which).len ≡ body_of g which
-unfolding envelope_bytes bodies_of body_of le_bytes root_bytes
+pub body_is : (h : Head) (g : Given) (which : EnvelopePart) → part_of (envelope_bytes h g) (body (bodies_of (given_lengths g)) which).at (body (bodies_of (given_lengths g)) which).len ≡ body g which
+unfolding envelope_bytes bodies_of body le_bytes root_bytes
 body_is h g Kdf = piece_part (pieces h g) 17 80 _ (length-joined (take 17 (pieces h g)) ∙ omega arith) refl
 body_is h g KdfParameters = piece_part (pieces h g) 18 _ _ (length-joined (take 18 (pieces h g)) ∙ omega arith) refl
 body_is h g Agreement = piece_part (pieces h g) 19 _ _ (length-joined (take 19 (pieces h g)) ∙ omega arith) refl
@@ -117,7 +117,7 @@ given_checks h g =
 
 -- Of the reader's checks on the bytes no others can apply.
 pub write_checks_lem : (h : Head) (g : Given) → Fit h → first_of (write_checks h g) ≡ first_of (given_checks h g)
-unfolding write_checks envelope_checks head_checks layout_checks body_of
+unfolding write_checks envelope_checks head_checks layout_checks body
 write_checks_lem h g fit =
     rw (length-bytes h g)
     (first_after _ _ _ _ (λ q. let small = ltb-false 65535 (envelope_length g) q in

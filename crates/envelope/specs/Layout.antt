@@ -84,12 +84,12 @@ bodies_of n =
     }
 
 -- of the eight the one asked for
-unfoldable pub body_of : {A : Type 0} → Bodies A → EnvelopePart → A
-body_of b Kdf = b.kdf
-body_of b KdfParameters = b.kdf_parameters
-body_of b Agreement = b.agreement
-body_of b AgreementParameters = b.agreement_parameters
-body_of b Domain = b.domain
-body_of b Forest = b.forest
-body_of b L1Key = b.l1_key
-body_of b L2Key = b.l2_key
+unfoldable pub body : {A : Type 0} → Bodies A → EnvelopePart → A
+body b Kdf = b.kdf
+body b KdfParameters = b.kdf_parameters
+body b Agreement = b.agreement
+body b AgreementParameters = b.agreement_parameters
+body b Domain = b.domain
+body b Forest = b.forest
+body b L1Key = b.l1_key
+body b L2Key = b.l2_key

@@ -16,11 +16,11 @@ use Rattle.envelope.specs.declared.Head.{Head}
 use Rattle.envelope.specs.declared.EnvelopePart.{EnvelopePart}
 use Rattle.envelope.specs.declared.EnvelopePart.TheVariants.{Kdf, Agreement, Domain, Forest}
 use Rattle.envelope.specs.declared.Envelope.{Envelope}
-use Rattle.envelope.specs.Layout.{mark, head_of, is_public, lengths_of, end_at, bodies_of, body_of}
+use Rattle.envelope.specs.Layout.{mark, head_of, is_public, lengths_of, end_at, bodies_of, body}
 
 -- the bytes of a body, by the lengths of the head
 abbrev pub body_at : List ℕ → EnvelopePart → List ℕ
-body_at s which = part_of s (body_of (bodies_of (lengths_of s)) which).at (body_of (bodies_of (lengths_of s)) which).len
+body_at s which = part_of s (body (bodies_of (lengths_of s)) which).at (body (bodies_of (lengths_of s)) which).len
 
 -- 1, 2, 4
 unfoldable pub head_checks : List ℕ → List Check
@@ -81,7 +81,7 @@ envelope_values (Err r) =
 
 -- where a body stands; 0 and 0 on a refusal
 unfoldable pub span_of : Result Envelope Refusal → EnvelopePart → Span
-span_of (Ok e) which = body_of e.bodies which
+span_of (Ok e) which = body e.bodies which
 span_of (Err r) which = no_body
 
 abbrev pub envelope_span : List ℕ → EnvelopePart → Span

@@ -1,13 +1,13 @@
 // Document 01, "Group Key Envelope" (MS-GKDI 2.2.4), read and written.
 #![tactic(auto)]
 
-ghost use Rattle.std.specs.Prelude.{◌≡◌, ◌++◌, ◌+◌, ◌≤◌, min, length};
+ghost use Rattle.std.specs.Prelude.{◌≡◌, ◌++◌, ◌+◌, ◌≤◌, ◌<◌, ◌^◌, min, length};
 ghost use Rattle.refusal.specs.Chain.{first_of};
 ghost use Rattle.wire.specs.Parts.{onto, joined};
 ghost use Rattle.records.specs.Writing.{output_of};
 ghost use Rattle.keys.specs.KeyRule.{key_checks};
 ghost use Rattle.keys.specs.Forms.{keys_of};
-ghost use Rattle.envelope.specs.Layout.{head_of, is_public, lengths_of, end_at, bodies_of, body_of};
+ghost use Rattle.envelope.specs.Layout.{head_of, is_public, lengths_of, end_at, bodies_of, body};
 ghost use Rattle.envelope.specs.Reading.{head_checks, four_texts, layout_checks, envelope_checks, shown, envelope_of, span_of, envelope_span, envelope_part, form_of};
 ghost use Rattle.envelope.specs.Writing.{given_in, given_lengths, envelope_length, head_pieces, envelope_bytes, write_checks, envelope_written};
 
@@ -80,8 +80,9 @@ pub fn span_of(read: Result<Envelope, Refusal>, which: EnvelopePart) -> Span
 }
 
 impl<T: Copy> Bodies<T> {
+    // Of the eight the one that is asked for.
     fn body(self, which: EnvelopePart) -> T
-        ensures { result ≡ body_of self which }
+        ensures { result ≡ body self which }
     {
         match which {
             EnvelopePart::Kdf => self.kdf,
@@ -100,8 +101,7 @@ impl<T: Copy> Bodies<T> {
 pub fn form_of(envelope: Envelope) -> Form
     ensures { result ≡ form_of envelope }
 {
-    let bodies = envelope.bodies;
-    let head = envelope.head;
+    let Envelope { head, bodies } = envelope;
     if (bodies.l1_key.len == 0) & (bodies.l2_key.len == 0) {
         return Form::Keyless;
     }
@@ -121,8 +121,7 @@ pub fn form_of(envelope: Envelope) -> Form
 pub fn seed_keys_of(envelope: Envelope) -> SeedKeys
     ensures { result ≡ keys_of (form_of envelope) }
 {
-    let bodies = envelope.bodies;
-    let head = envelope.head;
+    let Envelope { head, bodies } = envelope;
     let seed = !is_public(head.flags);
     SeedKeys {
         l1: seed & (bodies.l1_key.len != 0),
@@ -167,8 +166,7 @@ fn judge_layout(s: &[u8]) -> Result<(), Refusal>
     ensures { result ≡ first_of (layout_checks s.now) }
 {
     let head = head_of(s);
-    let at = head.at;
-    if at.index_above_31() {
+    if head.at.index_above_31() {
         return Err(Refusal::IndexAbove31);
     }
     let n = lengths_of(s);
@@ -182,21 +180,22 @@ fn judge_layout(s: &[u8]) -> Result<(), Refusal>
         wire::part(s, bodies.domain),
         wire::part(s, bodies.forest),
     )?;
-    judge_keys(head, n.l1_key as usize, n.l2_key as usize)
+    judge_keys(head, n.l1_key, n.l2_key)
 }
 
 // Where the last body ends: 80 plus the eight lengths.
-fn end_of(n: Bodies<u32>) -> usize
+fn end_of(n: Bodies<usize>) -> usize
+    requires { end_at n < 2 ^ 64 }
     ensures { result ≡ end_at n }
 {
-    80 + n.kdf as usize
-        + n.kdf_parameters as usize
-        + n.agreement as usize
-        + n.agreement_parameters as usize
-        + n.domain as usize
-        + n.forest as usize
-        + n.l1_key as usize
-        + n.l2_key as usize
+    80 + n.kdf
+        + n.kdf_parameters
+        + n.agreement
+        + n.agreement_parameters
+        + n.domain
+        + n.forest
+        + n.l1_key
+        + n.l2_key
 }
 
 // The rule of a text, for the four texts in body order.
@@ -213,10 +212,9 @@ fn judge_texts(kdf: &[u8], agreement: &[u8], domain: &[u8], forest: &[u8]) -> Re
 fn judge_keys(head: Head, l1_length: usize, l2_length: usize) -> Result<(), Refusal>
     ensures { result ≡ first_of (key_checks (is_public head.flags) head.at head.public_length l1_length l2_length) }
 {
-    let at = head.at;
     keys::judge(
         is_public(head.flags),
-        at,
+        head.at,
         head.public_length as usize,
         l1_length,
         l2_length,
@@ -251,64 +249,63 @@ fn head_of(s: &[u8]) -> Head
 }
 
 // Domain and forest lengths come after the keys' lengths.
-fn lengths_of(s: &[u8]) -> Bodies<u32>
-    ensures { result ≡ lengths_of s.now }
+fn lengths_of(s: &[u8]) -> Bodies<usize>
+    ensures lengths { result ≡ lengths_of s.now }
+    ensures fits { end_at result < 2 ^ 64 }
 {
     Bodies {
-        kdf: le32_at(s, 40),
-        kdf_parameters: le32_at(s, 44),
-        agreement: le32_at(s, 48),
-        agreement_parameters: le32_at(s, 52),
-        l1_key: le32_at(s, 64),
-        l2_key: le32_at(s, 68),
-        domain: le32_at(s, 72),
-        forest: le32_at(s, 76),
+        kdf: le32_at(s, 40) as usize,
+        kdf_parameters: le32_at(s, 44) as usize,
+        agreement: le32_at(s, 48) as usize,
+        agreement_parameters: le32_at(s, 52) as usize,
+        l1_key: le32_at(s, 64) as usize,
+        l2_key: le32_at(s, 68) as usize,
+        domain: le32_at(s, 72) as usize,
+        forest: le32_at(s, 76) as usize,
     }
 }
 
 // Domain and forest bodies come before the keys.
-fn bodies_of(n: Bodies<u32>) -> Bodies<Span>
+fn bodies_of(n: Bodies<usize>) -> Bodies<Span>
+    requires { end_at n < 2 ^ 64 }
     ensures { result ≡ bodies_of n }
 {
-    let kdf_parameters = 80 + n.kdf as usize;
-    let agreement = kdf_parameters + n.kdf_parameters as usize;
-    let agreement_parameters = agreement + n.agreement as usize;
-    let domain = agreement_parameters + n.agreement_parameters as usize;
-    let forest = domain + n.domain as usize;
-    let l1_key = forest + n.forest as usize;
-    let l2_key = l1_key + n.l1_key as usize;
+    let kdf_parameters = 80 + n.kdf;
+    let agreement = kdf_parameters + n.kdf_parameters;
+    let agreement_parameters = agreement + n.agreement;
+    let domain = agreement_parameters + n.agreement_parameters;
+    let forest = domain + n.domain;
+    let l1_key = forest + n.forest;
+    let l2_key = l1_key + n.l1_key;
     Bodies {
-        kdf: Span {
-            at: 80,
-            len: n.kdf as usize,
-        },
+        kdf: Span { at: 80, len: n.kdf },
         kdf_parameters: Span {
             at: kdf_parameters,
-            len: n.kdf_parameters as usize,
+            len: n.kdf_parameters,
         },
         agreement: Span {
             at: agreement,
-            len: n.agreement as usize,
+            len: n.agreement,
         },
         agreement_parameters: Span {
             at: agreement_parameters,
-            len: n.agreement_parameters as usize,
+            len: n.agreement_parameters,
         },
         domain: Span {
             at: domain,
-            len: n.domain as usize,
+            len: n.domain,
         },
         forest: Span {
             at: forest,
-            len: n.forest as usize,
+            len: n.forest,
         },
         l1_key: Span {
             at: l1_key,
-            len: n.l1_key as usize,
+            len: n.l1_key,
         },
         l2_key: Span {
             at: l2_key,
-            len: n.l2_key as usize,
+            len: n.l2_key,
         },
     }
 }
@@ -343,8 +340,7 @@ fn judge_given(head: Head, bodies: Bodies<&[u8]>) -> Result<(), Refusal>
     if LIMIT < capped(bodies) {
         return Err(Refusal::TooLong);
     }
-    let at = head.at;
-    if at.index_above_31() {
+    if head.at.index_above_31() {
         return Err(Refusal::IndexAbove31);
     }
     judge_texts(bodies.kdf, bodies.agreement, bodies.domain, bodies.forest)?;
@@ -368,26 +364,25 @@ fn capped(bodies: Bodies<&[u8]>) -> usize
     sizes.iter().fold(80, |len, size| grown(len, *size))
 }
 
-// The lengths of what is given, as the head has them.
-fn given_lengths(bodies: Bodies<&[u8]>) -> Bodies<u32>
-    requires { envelope_length (given_in bodies) ≤ 65535 }
+// The lengths of what is given.
+fn given_lengths(bodies: Bodies<&[u8]>) -> Bodies<usize>
     ensures { result ≡ given_lengths (given_in bodies.entry) }
 {
     Bodies {
-        kdf: bodies.kdf.len() as u32,
-        kdf_parameters: bodies.kdf_parameters.len() as u32,
-        agreement: bodies.agreement.len() as u32,
-        agreement_parameters: bodies.agreement_parameters.len() as u32,
-        domain: bodies.domain.len() as u32,
-        forest: bodies.forest.len() as u32,
-        l1_key: bodies.l1_key.len() as u32,
-        l2_key: bodies.l2_key.len() as u32,
+        kdf: bodies.kdf.len(),
+        kdf_parameters: bodies.kdf_parameters.len(),
+        agreement: bodies.agreement.len(),
+        agreement_parameters: bodies.agreement_parameters.len(),
+        domain: bodies.domain.len(),
+        forest: bodies.forest.len(),
+        l1_key: bodies.l1_key.len(),
+        l2_key: bodies.l2_key.len(),
     }
 }
 
 // The head, and each body into its own part of the output, by the writer of its kind: of parameters nothing is judged.
 #[tactic(auto, unfolding(crate::specs::Layout::bodies_of))]
-fn put(out: &mut [u8], head: Head, n: Bodies<u32>, bodies: Bodies<&[u8]>)
+fn put(out: &mut [u8], head: Head, n: Bodies<usize>, bodies: Bodies<&[u8]>)
     requires lengths { n ≡ given_lengths (given_in bodies) }
     requires limit { end_at n ≤ 65535 }
     requires room { end_at n ≤ length out.old }
@@ -414,33 +409,32 @@ fn put(out: &mut [u8], head: Head, n: Bodies<u32>, bodies: Bodies<&[u8]>)
     keys::put(&mut out[places.l2_key.at..end_of(n)], bodies.l2_key);
 }
 
-fn put_head(dst: &mut [u8], head: Head, n: Bodies<u32>)
-    requires { 80 ≤ length dst.old }
+fn put_head(dst: &mut [u8], head: Head, n: Bodies<usize>)
+    requires limit { end_at n ≤ 65535 }
+    requires room { 80 ≤ length dst.old }
     ensures { dst.new ≡ onto (joined (head_pieces head n)) dst.old }
 {
-    let at = head.at;
-    let root = head.root;
     let front = [
         head.version,
         0x4B53444B,
         head.flags,
-        at.l0.0,
-        at.l1.0,
-        at.l2.0,
+        head.at.l0.0,
+        head.at.l1.0,
+        head.at.l2.0,
     ];
     let lengths = [
-        n.kdf,
-        n.kdf_parameters,
-        n.agreement,
-        n.agreement_parameters,
+        n.kdf as u32,
+        n.kdf_parameters as u32,
+        n.agreement as u32,
+        n.agreement_parameters as u32,
         head.private_length,
         head.public_length,
-        n.l1_key,
-        n.l2_key,
-        n.domain,
-        n.forest,
+        n.l1_key as u32,
+        n.l2_key as u32,
+        n.domain as u32,
+        n.forest as u32,
     ];
     put_le32s(&mut dst[0..24], &front);
-    root.put(&mut dst[24..40]);
+    head.root.put(&mut dst[24..40]);
     put_le32s(&mut dst[40..80], &lengths);
 }

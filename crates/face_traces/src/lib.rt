@@ -170,10 +170,10 @@ fn numbers(tally: Tally, clocks: u32, first: u64, last: u64) -> TallyNumbers
 impl From<ReplayState> for State {
     ghost from_gives = { λ shown state. state ≡ state_from shown };
 
-    fn from(state: ReplayState) -> State {
+    fn from(shown: ReplayState) -> State {
         State {
-            next: state.next,
-            tally: state.tally.into(),
+            next: shown.next,
+            tally: shown.tally.into(),
         }
     }
 }

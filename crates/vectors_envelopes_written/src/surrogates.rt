@@ -1,9 +1,6 @@
 // Document 02, No. 6: surrogates in the four texts that a writer is given.
-use crate::print;
-use crate::writer::{head_at, shown};
-use cases::FILL;
-use envelope::Head;
-use line::{Line, Text};
+use crate::writer::{head_at, written};
+use envelope::Bodies;
 use std::io;
 
 // A text: the first len of these bytes.
@@ -171,105 +168,17 @@ fn put(
     forest: Spelt,
     l1_key: usize,
 ) -> io::Result<()> {
-    let mut out = [FILL; 200];
-    let mut line = Line::new();
-    line.text(name);
-    written(
-        &mut line,
-        &mut out,
-        room,
-        head_at(0, l1, 7, 0),
-        kdf,
-        agreement,
-        domain,
-        forest,
-        l1_key,
-    );
-    print(rt, line)
-}
-
-fn written(
-    line: &mut Line,
-    out: &mut [u8],
-    room: usize,
-    head: Head,
-    kdf: Spelt,
-    agreement: Spelt,
-    domain: Spelt,
-    forest: Spelt,
-    l1_key: usize,
-) {
-    if room <= out.len() {
-        let answer = with_algorithms(
-            &mut out[0..room],
-            head,
-            kdf,
-            agreement,
-            domain,
-            forest,
-            l1_key,
-        );
-        shown(line, answer, out);
-    }
-}
-
-fn with_algorithms(
-    out: &mut [u8],
-    head: Head,
-    kdf: Spelt,
-    agreement: Spelt,
-    domain: Spelt,
-    forest: Spelt,
-    l1_key: usize,
-) -> Result<usize, Refusal> {
-    let first = kdf.bytes;
-    let second = agreement.bytes;
-    with_names(
-        out,
-        head,
-        cases::first(&first, kdf.len),
-        cases::first(&second, agreement.len),
-        domain,
-        forest,
-        l1_key,
-    )
-}
-
-fn with_names(
-    out: &mut [u8],
-    head: Head,
-    kdf: &[u8],
-    agreement: &[u8],
-    domain: Spelt,
-    forest: Spelt,
-    l1_key: usize,
-) -> Result<usize, Refusal> {
-    let third = domain.bytes;
-    let fourth = forest.bytes;
-    with_key(
-        out,
-        head,
-        kdf,
-        agreement,
-        cases::first(&third, domain.len),
-        cases::first(&fourth, forest.len),
-        l1_key,
-    )
-}
-
-fn with_key(
-    out: &mut [u8],
-    head: Head,
-    kdf: &[u8],
-    agreement: &[u8],
-    domain: &[u8],
-    forest: &[u8],
-    l1_key: usize,
-) -> Result<usize, Refusal> {
     let zeros = [0; 64];
     let none = cases::first(&zeros, 0);
-    let key = cases::first(&zeros, l1_key);
-    envelope::write(
-        out, head, kdf, none, agreement, none, domain, forest, key, none,
-    )
+    let bodies = Bodies {
+        kdf: cases::first(&kdf.bytes, kdf.len),
+        kdf_parameters: none,
+        agreement: cases::first(&agreement.bytes, agreement.len),
+        agreement_parameters: none,
+        domain: cases::first(&domain.bytes, domain.len),
+        forest: cases::first(&forest.bytes, forest.len),
+        l1_key: cases::first(&zeros, l1_key),
+        l2_key: none,
+    };
+    written(rt, name, room, head_at(0, l1, 7, 0), bodies)
 }

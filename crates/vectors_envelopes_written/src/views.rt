@@ -114,7 +114,7 @@ fn show_head(line: &mut Line, head: Head) {
 }
 
 // The eight places.
-fn show_bodies(line: &mut Line, bodies: Bodies) {
+fn show_bodies(line: &mut Line, bodies: Bodies<Span>) {
     line.text(b" BODIES");
     place(line, bodies.kdf);
     place(line, bodies.kdf_parameters);
@@ -144,18 +144,17 @@ fn rewritten(rt: &impl Print, head: Head, s: &[u8]) -> io::Result<()> {
 }
 
 fn rewrite(line: &mut Line, out: &mut [u8], head: Head, s: &[u8]) {
-    let answer = envelope::write(
-        out,
-        head,
-        envelope::part(s, EnvelopePart::Kdf),
-        envelope::part(s, EnvelopePart::KdfParameters),
-        envelope::part(s, EnvelopePart::Agreement),
-        envelope::part(s, EnvelopePart::AgreementParameters),
-        envelope::part(s, EnvelopePart::Domain),
-        envelope::part(s, EnvelopePart::Forest),
-        envelope::part(s, EnvelopePart::L1Key),
-        envelope::part(s, EnvelopePart::L2Key),
-    );
+    let bodies = Bodies {
+        kdf: envelope::part(s, EnvelopePart::Kdf),
+        kdf_parameters: envelope::part(s, EnvelopePart::KdfParameters),
+        agreement: envelope::part(s, EnvelopePart::Agreement),
+        agreement_parameters: envelope::part(s, EnvelopePart::AgreementParameters),
+        domain: envelope::part(s, EnvelopePart::Domain),
+        forest: envelope::part(s, EnvelopePart::Forest),
+        l1_key: envelope::part(s, EnvelopePart::L1Key),
+        l2_key: envelope::part(s, EnvelopePart::L2Key),
+    };
+    let answer = envelope::write(out, head, bodies);
     words::written(line, answer);
     line.text(b" ");
     cases::compared(line, out, s);

@@ -1,9 +1,10 @@
 // Envelopes written, and read back.
 use crate::print;
 use cases::FILL;
-use envelope::Head;
+use envelope::{Bodies, Head};
 use gkid::{Gkid, L0, L1, L2};
 use line::{Line, Text};
+use refusal::Refusal;
 use rootid::RootId;
 use std::io;
 
@@ -175,40 +176,41 @@ fn put(
     l2_key: usize,
 ) -> io::Result<()> {
     let zeros = [0; 65536];
+    let text = cases::first(&zeros, 2);
+    let none = cases::first(&zeros, 0);
+    let bodies = Bodies {
+        kdf: cases::first(&kdf, n),
+        kdf_parameters: cases::first(&zeros, kdf_parameters),
+        agreement: text,
+        agreement_parameters: none,
+        domain: text,
+        forest: text,
+        l1_key: cases::first(&zeros, l1_key),
+        l2_key: cases::first(&zeros, l2_key),
+    };
+    written(rt, name, room, head, bodies)
+}
+
+// These written into `room` bytes.
+pub fn written(
+    rt: &impl Print,
+    name: &[u8],
+    room: usize,
+    head: Head,
+    bodies: Bodies<&[u8]>,
+) -> io::Result<()> {
     let mut out = [FILL; 200];
     let mut line = Line::new();
     line.text(name);
-    written(
-        &mut line,
-        &mut out,
-        room,
-        head,
-        cases::first(&kdf, n),
-        cases::first(&zeros, kdf_parameters),
-        cases::first(&zeros, l1_key),
-        cases::first(&zeros, l2_key),
-    );
+    if room <= out.len() {
+        let answer = envelope::write(&mut out[0..room], head, bodies);
+        shown(&mut line, answer, &out);
+    }
     print(rt, line)
 }
 
-fn written(
-    line: &mut Line,
-    out: &mut [u8],
-    room: usize,
-    head: Head,
-    kdf: &[u8],
-    kdf_parameters: &[u8],
-    l1_key: &[u8],
-    l2_key: &[u8],
-) {
-    if room <= out.len() {
-        let answer = write_into(&mut out[0..room], head, kdf, kdf_parameters, l1_key, l2_key);
-        shown(line, answer, out);
-    }
-}
-
 // The answer; the record that was written, as it reads back; and whether the output behind it, or all of it on a refusal, is as it was.
-pub fn shown(line: &mut Line, answer: Result<usize, Refusal>, out: &[u8]) {
+fn shown(line: &mut Line, answer: Result<usize, Refusal>, out: &[u8]) {
     words::written(line, answer);
     if let Ok(len) = answer {
         line.text(b" ");
@@ -216,31 +218,6 @@ pub fn shown(line: &mut Line, answer: Result<usize, Refusal>, out: &[u8]) {
         return kept(line, out, len);
     }
     kept(line, out, 0)
-}
-
-fn write_into(
-    out: &mut [u8],
-    head: Head,
-    kdf: &[u8],
-    kdf_parameters: &[u8],
-    l1_key: &[u8],
-    l2_key: &[u8],
-) -> Result<usize, Refusal> {
-    let empty = [0; 2];
-    let text = &empty[..];
-    let none = cases::first(text, 0);
-    envelope::write(
-        out,
-        head,
-        kdf,
-        kdf_parameters,
-        text,
-        none,
-        text,
-        text,
-        l1_key,
-        l2_key,
-    )
 }
 
 // Whether the output from len on is as it was.

@@ -4,4 +4,4 @@ use Rattle.envelope.proofs.shown.Goals as goal
 
 pub returns : goal.returns
 unfolding shown
-returns c = rw (c.bodies_of.ensures, c.lengths_of.ensures, c.head_of.ensures)
+returns c = rw (c.bodies_of.ensures, c.lengths_of.ensures.lengths, c.head_of.ensures)

@@ -1,5 +1,5 @@
 -- `write`: the judge's refusal, 13, or the envelope's length and the envelope put.
-use Rattle.lemmas.proofs.Basics.{refl, sym, ap, ◌∙◌}
+use Rattle.lemmas.proofs.Basics.{arith, refl, sym, ap, ◌∙◌}
 use Rattle.lemmas.proofs.Results.{passed_on}
 use Rattle.records.specs.Writing.{output_of}
 use Rattle.records.proofs.Laws.{refuses, lacks_room, writes}
@@ -13,8 +13,10 @@ returns-in_err-judge_given c =
     let told = passed_on c.from_residual.ensures.1 in
     record { answer = told ∙ refuses _ _ c.judge_given.ensures c.in_err-judge_given.was; output = rw told refl }
 
-pub given_lengths-n-requires : goal.given_lengths-n-requires
-given_lengths-n-requires c = within_limit _ _ (sym c.judge_given.ensures ∙ c.in_ok-judge_given.was)
+pub end_of-len-requires : goal.end_of-len-requires
+end_of-len-requires c =
+    let fits = within_limit _ _ (sym c.judge_given.ensures ∙ c.in_ok-judge_given.was) in
+    rw c.given_lengths-n.ensures (omega (arith, fits))
 
 pub returns-then-out-len : goal.returns-then-out-len
 unfolding output_of
