@@ -23,7 +23,7 @@ use Rattle.reach.proofs.KeyLaws.{not_by_both}
 use Rattle.reach.proofs.ReachLaws.{group_is, no_key}
 use Rattle.envelope.specs.declared.EnvelopePart.{EnvelopePart}
 use Rattle.envelope.specs.declared.EnvelopePart.TheVariants.{L1Key, L2Key}
-use Rattle.envelope.specs.Layout.{is_public, body_of, head_of, lengths_of, bodies_of}
+use Rattle.envelope.specs.Layout.{is_public, body, head_of, lengths_of, bodies_of}
 use Rattle.envelope.specs.Reading.{envelope_checks, envelope_of, envelope_number, shown, span_of, envelope_part, form_of}
 use Rattle.envelope.proofs.Reading.{accepted-shown, part_inside}
 use Rattle.envelope.proofs.ExactlyWhen.{accepted-keys}
@@ -37,9 +37,9 @@ use Rattle.serving.specs.Choice.{key_for, served_by, prefer, choice_of, chosen_p
 use Rattle.serving.proofs.Reaching.{accepted_bits}
 
 -- the body of a key, and what a key reaches
-abbrev pub key_body : SeedKey → EnvelopePart
-key_body L1 = L1Key
-key_body L2 = L2Key
+abbrev pub body_of : SeedKey → EnvelopePart
+body_of L1 = L1Key
+body_of L2 = L2Key
 
 abbrev pub key_reaches : SeedKey → Gkid → Gkid → Bool
 key_reaches L1 at i = l1_reaches at i
@@ -48,7 +48,7 @@ key_reaches L2 at i = l2_reaches at i
 -- the key by which an envelope serves: it reaches the identifier; the part is that envelope's own key, 64 bytes
 pub record Key (s : List ℕ) (i : Gkid) (key : SeedKey) (part : List ℕ) : Type 0 where
   pub reaching : key_reaches key (head_of s).at i ≡ true
-  pub own : part ≡ envelope_part s (key_body key)
+  pub own : part ≡ envelope_part s (body_of key)
   pub size : length part ≡ 64
 
 -- what it says that an envelope serves by a key, or does not serve
@@ -59,7 +59,7 @@ Says s root i None = Serves s root i → ⊥
 -- An accepted envelope.
 module _ (s : List ℕ) (i : Gkid) (z : envelope_number (envelope_of s) ≡ 0) where
   abbrev place : SeedKey → Span
-  place key = body_of (bodies_of (lengths_of s)) (key_body key)
+  place key = body (bodies_of (lengths_of s)) (body_of key)
 
   -- a key of 64 bytes that reaches
   key_is : (key : SeedKey) → (place key).len ≡ 64 → key_reaches key (head_of s).at i ≡ true → Key s i key (part_of s (place key).at (place key).len)
@@ -68,7 +68,7 @@ module _ (s : List ℕ) (i : Gkid) (z : envelope_number (envelope_of s) ≡ 0) w
       record {
         reaching = by;
         own = rw (accepted-shown s z);
-        size = length_part s (place key).at (place key).len (rw (accepted-shown s z) at (part_inside s (key_body key))) ∙ long;
+        size = length_part s (place key).at (place key).len (rw (accepted-shown s z) at (part_inside s (body_of key))) ∙ long;
       }
 
   -- what its seed keys reach, it serves
@@ -79,7 +79,7 @@ module _ (s : List ℕ) (i : Gkid) (z : envelope_number (envelope_of s) ≡ 0) w
       record { accepted = z; has_root = same; has_l0 = sym (group_is (head_of s).at i (both_true (of_group (head_of s).at i) _ bit).0).0; reached = bit }
 
   key_says : (root : RootId) → (head_of s).root ≡ root → Says s root i (key_for (shown s) i)
-  unfolding key_for reaches shown bodies_of body_of
+  unfolding key_for reaches shown bodies_of body
   key_says root same =
       let keys = keys_of (form_of (shown s)) in
       cond_cases (Says s root i) (keys.l2 && l2_reaches (head_of s).at i)
