@@ -27,6 +27,7 @@ impl RootId {
     }
 
     #[tactic(auto, using(crate::proofs::Roots::same_halves))]
+    // `==`, under the name that is cited (docs/ASSURANCE.md).
     pub fn is(self, other: RootId) -> bool
         ensures { result ≡ same_root self other }
     {
