@@ -26,8 +26,8 @@ impl RootId {
         }
     }
 
-    #[tactic(auto, using(crate::proofs::Roots::same_halves))]
     // `==`, under the name that is cited (docs/ASSURANCE.md).
+    #[tactic(auto, using(crate::proofs::Roots::same_halves))]
     pub fn is(self, other: RootId) -> bool
         ensures { result ≡ same_root self other }
     {

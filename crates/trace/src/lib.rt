@@ -53,7 +53,7 @@ fn judge(s: &[u8]) -> Result<(), Refusal>
     Ok(())
 }
 
-// Bits of the identifier are set while no root is given. By `&`, so that it is compiled without a branch.
+// Bits of the identifier are set while no root is given.
 fn is_stray(given: u8, id: RootId) -> bool
     ensures { result ≡ (eqb given 0 && not (eqb id.low 0 && eqb id.high 0)) }
 {
