@@ -198,7 +198,9 @@ fn end_of(n: Bodies<usize>) -> usize
         + n.l2_key
 }
 
-// The rule of a text, for the four texts in body order.
+// The rule of a text, for the four texts in body order. Inlined in reader and writer: as a call it costs an envelope of 88 bytes 18
+// instructions where it is read and 49 where it is written.
+#[inline(always)]
 fn judge_texts(kdf: &[u8], agreement: &[u8], domain: &[u8], forest: &[u8]) -> Result<(), Refusal>
     ensures { result ≡ first_of (four_texts kdf.now agreement.now domain.now forest.now) }
 {
