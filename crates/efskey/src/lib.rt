@@ -21,7 +21,8 @@ pub struct EfsKey {
     pub certificate: Span,
 }
 
-// What an EfsKey has of a SID, a hint on who made the key: none, one, or zero bytes in its place, which give no hint.
+// What an EfsKey has of a SID, a hint on who made the key: none, one, or zero bytes in its place, which give no hint. It is no Option: what
+// is there is of two kinds, and C is told which of the three it is.
 #[derive(Clone, Copy, Debug, PartialEq, Eq)]
 pub enum SidHint {
     None,

@@ -66,7 +66,8 @@ fn keys_allowed(
     l1_key_allowed(public, at, l1_length) && l2_key_allowed(public, at, public_length, l2_length)
 }
 
-// Whether the rule accepts keys of these lengths at an identifier, or its refusal, 11; that an index is above 31 is not the rule's to say.
+// Whether the rule accepts keys of these lengths at an identifier, or its refusal, 11; that an index is above 31 is not the rule's to say. The five
+// stay apart, as a head has them and as the definitions take them: neither key's rule asks all.
 pub fn judge(
     public: bool,
     at: Gkid,

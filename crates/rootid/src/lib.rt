@@ -26,6 +26,7 @@ impl RootId {
         }
     }
 
+    // `==`, under the name that is cited (docs/ASSURANCE.md).
     #[tactic(auto, using(crate::proofs::Roots::same_halves))]
     pub fn is(self, other: RootId) -> bool
         ensures { result ≡ same_root self other }

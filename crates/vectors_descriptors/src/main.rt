@@ -6,7 +6,6 @@ mod items;
 mod places;
 
 use descriptor::Part;
-use input::Input;
 use line::{Line, Text};
 use std::io;
 use std::io::Read;
@@ -26,7 +25,7 @@ fn main(rt: HostRuntime) -> io::Result<()> {
 // Another implementation's, on standard input: owner at 48, DACL at 20 with one entry of 20 bytes.
 fn peer(rt: &impl Print, from: &mut impl Read) -> io::Result<()> {
     let mut bytes = [0; 64];
-    if let Input::Bytes(len) = input::read_all(from, &mut bytes) {
+    if let Ok(len) = input::read_all(from, &mut bytes) {
         told(rt, b"descriptor: a peer's: ", cases::first(&bytes, len))?;
     }
     Ok(())

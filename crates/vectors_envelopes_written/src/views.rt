@@ -3,7 +3,6 @@
 use crate::print;
 use cases::MARK;
 use envelope::{Bodies, EnvelopePart, Head};
-use input::Input;
 use line::{Line, Text};
 use std::io;
 use std::io::Read;
@@ -28,7 +27,7 @@ fn own(rt: &impl Print) -> io::Result<()> {
 
 fn peer(rt: &impl Print, from: &mut impl Read) -> io::Result<()> {
     let mut buffer = [0; 65536];
-    if let Input::Bytes(len) = input::read_all(from, &mut buffer) {
+    if let Ok(len) = input::read_all(from, &mut buffer) {
         let s = cases::first(&buffer, len);
         let mut line = Line::new();
         line.text(b"peer: ");

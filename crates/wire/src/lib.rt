@@ -36,7 +36,8 @@ pub fn rest(s: &[u8], at: usize) -> &[u8]
     s.get(at..).unwrap_or(&[])
 }
 
-// The N bytes from `at` on; zeros where any of them lies outside.
+// The N bytes from `at` on; zeros where any of them lies outside. The numbers below differ in width and order of bytes: each is one line
+// over this, as it would be in an impl of a trait.
 fn array_at<const N: usize>(s: &[u8], at: usize) -> [u8; N]
     ensures little { le_of result ≡ le_at N s.now at }
     ensures big { be_of result ≡ be_at N s.now at }
