@@ -2,8 +2,8 @@
 // judged: other control bits, reserved fields, types, sizes that are no multiple of 4, and bytes that no item covers may be anything.
 #![tactic(auto)]
 
-ghost use Rattle.std.specs.Prelude.{◌≡◌, ℕ, Bool, List};
-ghost use Rattle.std.specs.Fn.{FnOnceReturnsAt};
+ghost use Rattle.std.specs.Prelude.{◌≡◌};
+ghost use Rattle.sid.specs.Rule.{starts_sid};
 ghost use Rattle.descriptor.specs.Checking.{entries_fit, starts_acl, names, head_sound, finding_of, finding_number, is_sound};
 
 use records::LIMIT;
@@ -44,16 +44,16 @@ pub fn check(s: &[u8]) -> Result<(), Part>
     if !has_sound_head(s) {
         return Err(Part::Head);
     }
-    if !names(s, le32_at(s, 4), starts_sid) {
+    if !names_sid(s, le32_at(s, 4)) {
         return Err(Part::Owner);
     }
-    if !names(s, le32_at(s, 8), starts_sid) {
+    if !names_sid(s, le32_at(s, 8)) {
         return Err(Part::Group);
     }
-    if !names(s, le32_at(s, 12), starts_acl) {
+    if !names_acl(s, le32_at(s, 12)) {
         return Err(Part::Sacl);
     }
-    if !names(s, le32_at(s, 16), starts_acl) {
+    if !names_acl(s, le32_at(s, 16)) {
         return Err(Part::Dacl);
     }
     Ok(())
@@ -75,10 +75,9 @@ fn has_sound_head(s: &[u8]) -> bool
     le16_at(s, 2) / 32768 % 2 == 1
 }
 
-// An offset is 0, or at least 20 with its item inside the descriptor: a SID for owner and group, an ACL for SACL and DACL.
-fn names<F: FnOnce(&[u8]) -> bool>(s: &[u8], at: u32, starts: F) -> bool
-    requires { F.IsAlwaysCallable starts }
-    ensures { (item : List ℕ → Bool) → ((t : List ℕ) (b : Bool) → FnOnceReturnsAt F.FnOnce starts t b → b ≡ item t) → result ≡ names item s.now at }
+// Owner and group: an offset is 0, or at least 20 with a SID inside the descriptor.
+fn names_sid(s: &[u8], at: u32) -> bool
+    ensures { result ≡ names starts_sid s.now at }
 {
     if at == 0 {
         return true;
@@ -86,7 +85,21 @@ fn names<F: FnOnce(&[u8]) -> bool>(s: &[u8], at: u32, starts: F) -> bool
     if at < 20 {
         return false;
     }
-    starts(rest(s, at as usize))
+    starts_sid(rest(s, at as usize))
+}
+
+// SACL and DACL: likewise, with an ACL. One function over the kind of item (an `impl FnOnce`) was tried and proves: with it an entry takes 12
+// instructions where it takes 11 so, and a descriptor of many entries 1.09 of the reference's count, which it equals so.
+fn names_acl(s: &[u8], at: u32) -> bool
+    ensures { result ≡ names starts_acl s.now at }
+{
+    if at == 0 {
+        return true;
+    }
+    if at < 20 {
+        return false;
+    }
+    starts_acl(rest(s, at as usize))
 }
 
 // An ACL: at least its head's 8 bytes and inside; its entries are those behind the head, inside its own size.
@@ -103,12 +116,14 @@ fn starts_acl(t: &[u8]) -> bool
     entries_fit(le16_at(t, 4), rest(part(t, Span { at: 0, len }), 8))
 }
 
-// As many entries as counted, end to end: each is passed, and those behind it are left.
+// As many entries as counted, end to end: each is passed, and those behind it are left. Counted down: `for _ in 0..count` was tried and proves,
+// and costs as much as the one function above.
 fn entries_fit(count: u16, t: &[u8]) -> bool
     ensures { result ≡ entries_fit count t.now }
 {
     let mut entries = t;
-    for _ in 0..count {
+    let mut left = count;
+    while left > 0 {
         let size = le16_at(entries, 2) as usize;
         if size < 4 {
             return false;
@@ -117,6 +132,7 @@ fn entries_fit(count: u16, t: &[u8]) -> bool
             return false;
         }
         entries = &entries[size..];
+        left -= 1;
     }
     true
 }
