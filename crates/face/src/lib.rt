@@ -133,7 +133,7 @@ pub fn form_code(form: Form) -> u32
     }
 }
 
-// The form that a code names.
+// The form that a code names, which is no `From` for the same reason.
 pub fn form_from(code: u32) -> Form
     ensures { result ≡ form_from code }
 {
@@ -152,7 +152,7 @@ pub fn form_from(code: u32) -> Form
     Form::Keyless
 }
 
-// Yes is 1.
+// Yes is 1: the C interface has no bool.
 pub fn bool_code(yes: bool) -> u32
     ensures { result ≡ bool_code yes }
 {

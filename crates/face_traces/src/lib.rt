@@ -128,7 +128,7 @@ impl From<TallyNumbers> for Tally {
     }
 }
 
-// A code that is not 1 is none.
+// A code that is not 1 is none: the C interface hands in three numbers.
 fn clocks_from(code: u32, first: u64, last: u64) -> Option<Ends>
     ensures { result ≡ clocks_from code first last }
 {

@@ -118,6 +118,7 @@ pub fn replay(out: &mut [u8], state: State, table: &[u8], chunk: &[u8], ends: bo
     let mut text = Lent { bytes: out, len: 0 };
     let mut present = state;
     let mut left = chunk;
+    // No `for`: how many records are replayed is known only as their lines are put.
     while has_record(left.len(), ends) {
         if text.bytes.len() - text.len < LINE {
             return Progress {

@@ -404,7 +404,7 @@ fn by(line: &mut Line, serving: Serving) {
     words::span(line, serving.place);
 }
 
-// A finished line, on standard output.
+// A finished line, on standard output. Each program has these two lines: of that stream no contract says a thing, and `cases` is proved.
 fn print(rt: &impl Print, mut line: Line) -> io::Result<()> {
     line.text(b"\n");
     rt.write_all(line.as_bytes())

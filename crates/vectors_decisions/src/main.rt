@@ -462,7 +462,7 @@ fn granted_form(line: &mut Line, at: Gkid, form: Form) {
     line.number(u64::from(total));
 }
 
-// A finished line, on standard output.
+// A finished line, on standard output. Each program has these two lines: of that stream no contract says a thing, and `cases` is proved.
 fn print(rt: &impl Print, mut line: Line) -> io::Result<()> {
     line.text(b"\n");
     rt.write_all(line.as_bytes())

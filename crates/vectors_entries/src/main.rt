@@ -15,7 +15,7 @@ fn main(rt: HostRuntime) -> io::Result<()> {
     lists::run(&rt)
 }
 
-// A finished line, on standard output.
+// A finished line, on standard output. Each program has these two lines: of that stream no contract says a thing, and `cases` is proved.
 fn print(rt: &impl Print, mut line: Line) -> io::Result<()> {
     line.text(b"\n");
     rt.write_all(line.as_bytes())

@@ -33,7 +33,7 @@ fn put(s: &mut [u8], front: [u32; 5], fixed: [u8; 8], sizes: &[u32]) {
     cases::numbers(s, 28, sizes);
 }
 
-// A finished line, on standard output.
+// A finished line, on standard output. Each program has these two lines: of that stream no contract says a thing, and `cases` is proved.
 fn print(rt: &impl Print, mut line: Line) -> io::Result<()> {
     line.text(b"\n");
     rt.write_all(line.as_bytes())

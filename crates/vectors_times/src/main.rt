@@ -152,7 +152,7 @@ fn older(rt: &impl Print, name: &[u8], l0: u32, l1: u32, l2: u32) -> io::Result<
     print(rt, line)
 }
 
-// A finished line, on standard output.
+// A finished line, on standard output. Each program has these two lines: of that stream no contract says a thing, and `cases` is proved.
 fn print(rt: &impl Print, mut line: Line) -> io::Result<()> {
     line.text(b"\n");
     rt.write_all(line.as_bytes())
