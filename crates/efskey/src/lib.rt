@@ -214,6 +214,7 @@ fn shown(s: &[u8], sid: SidHint) -> EfsKey
 }
 
 // The bytes of a part: those very bytes of s, or the empty part on a refusal and for an absent SID.
+// One line in each record's crate, over its own reader and parts, as it would be in each impl of a trait.
 #[tactic(auto, using(wire::proofs::Parts::start_in, crate::proofs::Reading::part_inside))]
 pub fn part(s: &[u8], which: EfsKeyPart) -> &[u8]
     ensures bytes { result.now ≡ efs_key_part s.now which }

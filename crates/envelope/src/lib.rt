@@ -313,6 +313,7 @@ fn bodies_of(n: Bodies<usize>) -> Bodies<Span>
 }
 
 // The bytes of a body: those very bytes of s, or the empty part on a refusal and for an absent body.
+// One line in each record's crate, over its own reader and parts, as it would be in each impl of a trait.
 pub fn part(s: &[u8], which: EnvelopePart) -> &[u8]
     ensures bytes { result.now ≡ envelope_part s.now which }
     ensures place { (result.ref_ptr.0 ≡ s.entry.ref_ptr.0) × (result.ref_ptr.1 ≡ s.entry.ref_ptr.1 + (envelope_span s.now which).at) }

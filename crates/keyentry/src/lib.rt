@@ -201,6 +201,7 @@ fn shown(s: &[u8]) -> Entry
 }
 
 // The bytes of a part: those very bytes of s, or the empty part on a refusal.
+// One line in each record's crate, over its own reader and parts, as it would be in each impl of a trait.
 pub fn part(s: &[u8], which: EntryPart) -> &[u8]
     ensures bytes { result.now ≡ entry_part s.now which }
     ensures place { (result.ref_ptr.0 ≡ s.entry.ref_ptr.0) × (result.ref_ptr.1 ≡ s.entry.ref_ptr.1 + (entry_span s.now which).at) }

@@ -193,6 +193,7 @@ pub fn size(s: &[u8], index: usize) -> Result<Option<u32>, Refusal>
 }
 
 // The bytes of the sizes: those very bytes of s, or the empty part on a refusal.
+// One line in each record's crate, over its own reader and parts, as it would be in each impl of a trait.
 #[tactic(auto, using(wire::proofs::Parts::start_in, crate::proofs::Reading::part_inside))]
 pub fn part(s: &[u8]) -> &[u8]
     ensures bytes { result.now ≡ segment_part s.now }
