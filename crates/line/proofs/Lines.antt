@@ -58,12 +58,6 @@ length-put bytes piece len =
     ap (λ b. length b.bytes) (put_in bytes piece len fits) ∙ whole)
     (λ q. ap (λ b. length b.bytes) (put_out bytes piece len (leb-false _ _ q)))
 
-pub len-put : (bytes piece : List ℕ) (len : ℕ) → len ≤ length bytes → (put (buffer bytes len) piece).len ≤ length bytes
-len-put bytes piece len h =
-    by_cases (λ _. (put (buffer bytes len) piece).len ≤ length bytes) (leb (len + length piece) (length bytes))
-    (λ q. let fits = leb-true (len + length piece) (length bytes) q in omega (arith, ap (λ b. b.len) (put_in bytes piece len fits)))
-    (λ q. omega (arith, ap (λ b. b.len) (put_out bytes piece len (leb-false _ _ q))))
-
 -- Pieces put one after the other are laid behind the line.
 pub put-append : (b : Buffer) (pieces others : List (List ℕ)) → put_all (put_all b pieces) others ≡ put_all b (pieces ++ others)
 unfolding put_all

@@ -2,9 +2,6 @@
 // function is total: a piece that does not fit is left out.
 #![tactic(auto)]
 
-ghost use Rattle.std.specs.Prelude.{◌≤◌};
-ghost use Rattle.line.specs.declared.TheConstants.{ROOM};
-
 // How many bytes a line holds.
 pub const ROOM: usize = 256;
 
@@ -70,12 +67,11 @@ impl Text for Lent<'_> {
     }
 }
 
-// A line of text: the first `len` of its bytes. There is no heap, and so they are an array.
+// A line of text: the first `len` of its bytes, all of them where `len` is past their end. There is no heap, and so they are an array.
 #[derive(Clone, Copy)]
 pub struct Line {
-    bytes: [u8; ROOM],
-    len: usize,
-    ghost in_room: { len ≤ ROOM },
+    pub bytes: [u8; ROOM],
+    pub len: usize,
 }
 
 impl Line {
@@ -96,7 +92,7 @@ impl Line {
     pub fn as_bytes(&self) -> &[u8]
         ensures { result.now ≡ text_of self.now }
     {
-        &self.bytes[..self.len]
+        &self.bytes[..self.len.min(ROOM)]
     }
 }
 

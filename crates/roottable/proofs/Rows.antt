@@ -6,9 +6,9 @@ use Rattle.wire.proofs.Parts.{part_in, part_within}
 use Rattle.rootid.specs.Root.{root_at}
 use Rattle.roottable.specs.Rows.{row_size, row_at}
 
-row_in : (table : List ℕ) (k : ℕ) → row_size * k + row_size ≤ length table → row_at (part_of table (row_size * k) row_size) 0 ≡ row_at table k
+pub row_in_lem : (table : List ℕ) (k : ℕ) → row_size * k + row_size ≤ length table → row_at (part_of table (row_size * k) row_size) 0 ≡ row_at table k
 unfolding row_at root_at be_at
-row_in table k inside =
+row_in_lem table k inside =
     let id : part_of (part_of table (row_size * k) row_size) 0 16 ≡ part_of table (row_size * k) 16 =
     part_within table (row_size * k) row_size 0 16 inside (omega arith) ∙ ap (λ at. part_of table at 16) (omega arith)
     in
@@ -30,4 +30,4 @@ next_row table bytes rest k h e n =
     let left : rest ≡ drop (row_size * (k + 1)) table =
     sym (drop-append_seam bytes rest) ∙ rw (n, ← e) (drop-drop row_size (row_size * k) table ∙ ap (λ i. drop i table) (omega arith))
     in
-    record { row = ap (λ s. row_at s 0) own ∙ row_in table k inside; behind = left; within = omega arith }
+    record { row = ap (λ s. row_at s 0) own ∙ row_in_lem table k inside; behind = left; within = omega arith }
