@@ -1,6 +1,6 @@
 -- `write`: the judge's refusal, 13, or the entry's length and the entry put.
 use Rattle.lemmas.proofs.Basics.{◌≤◌, arith, refl, sym}
-use Rattle.std.proofs.lemmas.Result.{err_from_is_err_and}
+use Rattle.lemmas.proofs.Results.{passed_on}
 use Rattle.records.specs.Writing.{output_of}
 use Rattle.records.proofs.Laws.{refuses, lacks_room, writes}
 use Rattle.keyentry.specs.Writing.{entry_length}
@@ -9,7 +9,7 @@ use Rattle.keyentry.proofs.write.Goals as goal
 
 pub returns-in_err-judge_given : goal.returns-in_err-judge_given
 unfolding output_of
-returns-in_err-judge_given c = let p = err_from_is_err_and c.from_residual.result c.from_residual.ensures.1 in rw (p.1, p.2) (record { answer = refuses _ _ (c.in_err-judge_given.ensures _) refl; output = refl })
+returns-in_err-judge_given c = rw (passed_on c.from_residual.ensures.1) (record { answer = refuses _ _ (c.in_err-judge_given.ensures _) refl; output = refl })
 
 -- what was judged accepted is within the limit
 pub overflow_add-len-2 : goal.overflow_add-len-2
