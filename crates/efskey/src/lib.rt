@@ -3,7 +3,7 @@
 
 ghost use Rattle.std.specs.Prelude.{◌≡◌, ◌||◌, ◌+◌, ◌-◌, ◌≤◌, length};
 ghost use Rattle.refusal.specs.Chain.{first_of};
-ghost use Rattle.wire.specs.Parts.{onto};
+ghost use Rattle.wire.specs.Parts.{onto, LiesAt};
 ghost use Rattle.records.specs.Writing.{output_of};
 ghost use Rattle.efskey.specs.Layout.{lengths_disagree, certificate_misplaced, sid_misplaced, gap_without_sid, sid_area, all_zeros, is_no_hint, area_of};
 ghost use Rattle.efskey.specs.Reading.{head_checks, shown_with, efs_key_of, hint_kind, hint_span, span_of, efs_key_span, efs_key_part};
@@ -21,8 +21,8 @@ pub struct EfsKey {
     pub certificate: Span,
 }
 
-// What an EfsKey has of a SID, a hint on who made the key: none, one, or zero bytes in its place, which give no hint. It is no Option: what
-// is there is of two kinds, and C is told which of the three it is.
+// What an EfsKey has of a SID, a hint on who made the key: none, one, or zero bytes in its place, which give no hint. It is no Option, as
+// `hint_kind` and `sid_kind`, which C is told, have three kinds.
 #[derive(Clone, Copy, Debug, PartialEq, Eq)]
 pub enum SidHint {
     None,
@@ -38,7 +38,7 @@ pub enum EfsKeyPart {
 }
 
 impl SidHint {
-    // The kind as a number, which the C interface needs.
+    // The kind as a number, which the C interface needs, under the name that docs/ASSURANCE.md cites.
     #[tactic(auto, unfolding(crate::specs::Reading::hint_kind))]
     pub fn kind(self) -> u32
         ensures { result ≡ hint_kind self }
@@ -102,10 +102,7 @@ impl EfsKey {
 pub fn span_of(read: Result<EfsKey, Refusal>, which: EfsKeyPart) -> Span
     ensures { result ≡ span_of read which }
 {
-    match read {
-        Ok(key) => key.span(which),
-        Err(_) => Span { at: 0, len: 0 },
-    }
+    read.map_or(Span { at: 0, len: 0 }, |key| key.span(which))
 }
 
 // What an EfsKey shows, or its refusal. The SID area comes last, and what it holds is both judged and shown.
@@ -188,7 +185,7 @@ fn is_no_hint(area: &[u8]) -> bool
     !area.is_empty() && are_zeros(area)
 }
 
-// All bytes in one pass: their bits are gathered, and none is set.
+// All bytes in one pass: their bits are gathered, and none is set. By `all` the most zeros took some 27 times as many instructions.
 #[tactic(auto, using(crate::proofs::Hints::or_zero), unfolding(crate::specs::Layout::all_zeros, lemmas::specs::Counting::every))]
 fn are_zeros(area: &[u8]) -> bool
     ensures { result ≡ all_zeros area.now }
@@ -214,17 +211,20 @@ fn shown(s: &[u8], sid: SidHint) -> EfsKey
 }
 
 // The bytes of a part: those very bytes of s, or the empty part on a refusal and for an absent SID.
-// One line in each record's crate, over its own reader and parts, as it would be in each impl of a trait.
+// As `span_of`, one line in each record's crate: a trait that has both would ask each for the kind of part, the reader, the places and the law
+// that they lie inside, which is more than these lines.
 #[tactic(auto, using(wire::proofs::Parts::start_in, crate::proofs::Reading::part_inside))]
 pub fn part(s: &[u8], which: EfsKeyPart) -> &[u8]
     ensures bytes { result.now ≡ efs_key_part s.now which }
-    ensures place { (result.ref_ptr.0 ≡ s.entry.ref_ptr.0) × (result.ref_ptr.1 ≡ s.entry.ref_ptr.1 + (efs_key_span s.now which).at) }
+    ensures place { LiesAt result s.entry (efs_key_span s.now which).at }
 {
     wire::part(s, span_of(read(s), which))
 }
 
 // Writes an EfsKey of a SID, which is empty for none or zeros for no hint, and a certificate: what is given is judged, then 13. A
 // refusal keeps the output's bytes; success keeps those behind the record.
+// The shape is that of each record's writer, over its own judge, length and `put`: a trait for it would ask for these three, and a type of
+// what is given. As one value it would be put together by each caller, and taken apart in `put`.
 #[tactic(auto, using(crate::proofs::Writing::within_limit), unfolding(records::specs::Writing::written_of, records::specs::Writing::output_of, refusal::specs::Chain::unless_refused, refusal::specs::Chain::refuse_if))]
 pub fn write(out: &mut [u8], sid: &[u8], certificate: &[u8]) -> Result<usize, Refusal>
     ensures answer { result ≡ efs_key_written sid.now certificate.now (length out.old) }

@@ -1,5 +1,5 @@
 -- Document 01, "Group Key Envelope": the head's numbers and the places of the eight bodies.
-use Rattle.std.specs.Prelude.{ℕ, ◌+◌, ◌%◌, Bool, List, [], ◌∷◌, eqb}
+use Rattle.std.specs.Prelude.{ℕ, ◌+◌, ◌<◌, ◌^◌, ◌%◌, Bool, List, [], ◌∷◌, eqb}
 use Rattle.wire.specs.declared.Span.{Span}
 use Rattle.wire.specs.Parts.{le_at}
 use Rattle.gkid.specs.Identifier.{gkid}
@@ -43,6 +43,11 @@ lengths_of s =
       domain = le_at 4 s 72;
       forest = le_at 4 s 76;
     }
+
+-- the numbers that eight length fields can hold
+abbrev pub LengthsFit : Bodies ℕ → Type 0
+LengthsFit n =
+    (n.kdf < 2 ^ 32) × (n.kdf_parameters < 2 ^ 32) × (n.agreement < 2 ^ 32) × (n.agreement_parameters < 2 ^ 32) × (n.domain < 2 ^ 32) × (n.forest < 2 ^ 32) × (n.l1_key < 2 ^ 32) × (n.l2_key < 2 ^ 32)
 
 -- bodies from 80: KDF algorithm, KDF parameters, agreement algorithm, agreement parameters, domain, forest, L1 key, L2 key
 abbrev pub kdf_parameters_at : Bodies ℕ → ℕ

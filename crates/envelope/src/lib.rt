@@ -3,11 +3,11 @@
 
 ghost use Rattle.std.specs.Prelude.{◌≡◌, ◌++◌, ◌+◌, ◌≤◌, ◌<◌, ◌^◌, min, length};
 ghost use Rattle.refusal.specs.Chain.{first_of};
-ghost use Rattle.wire.specs.Parts.{onto, joined};
+ghost use Rattle.wire.specs.Parts.{onto, joined, LiesAt};
 ghost use Rattle.records.specs.Writing.{output_of};
 ghost use Rattle.keys.specs.KeyRule.{key_checks};
 ghost use Rattle.keys.specs.Forms.{keys_of};
-ghost use Rattle.envelope.specs.Layout.{head_of, is_public, lengths_of, end_at, bodies_of, body};
+ghost use Rattle.envelope.specs.Layout.{head_of, is_public, lengths_of, LengthsFit, end_at, bodies_of, body};
 ghost use Rattle.envelope.specs.Reading.{head_checks, four_texts, layout_checks, envelope_checks, shown, envelope_of, span_of, envelope_span, envelope_part, form_of};
 ghost use Rattle.envelope.specs.Writing.{given_in, given_lengths, envelope_length, head_pieces, envelope_bytes, write_checks, envelope_written};
 
@@ -42,6 +42,13 @@ pub struct Bodies<T> {
     pub l2_key: T,
 }
 
+// The lengths of the eight bodies, as 32 bits hold each.
+#[derive(Clone, Copy, Debug, PartialEq, Eq)]
+struct Lengths {
+    each: Bodies<usize>,
+    ghost fits: { LengthsFit each },
+}
+
 // An accepted envelope: the head's values, and where the bodies stand.
 #[derive(Clone, Copy, Debug, PartialEq, Eq)]
 pub struct Envelope {
@@ -63,6 +70,7 @@ pub enum EnvelopePart {
 }
 
 // "Bit 31 (LSB)" of dwFlags has the value 1.
+#[tactic(auto, unfolding(crate::specs::Layout::is_public))]
 pub fn is_public(flags: u32) -> bool
     ensures { result ≡ is_public flags }
 {
@@ -70,17 +78,19 @@ pub fn is_public(flags: u32) -> bool
 }
 
 // Where a body stands: each body of a refused envelope is empty at 0.
+#[tactic(auto, unfolding(crate::specs::Reading::span_of))]
 pub fn span_of(read: Result<Envelope, Refusal>, which: EnvelopePart) -> Span
     ensures { result ≡ span_of read which }
 {
-    match read {
-        Ok(envelope) => envelope.bodies.body(which),
-        Err(_) => Span { at: 0, len: 0 },
-    }
+    read.map_or(
+        Span { at: 0, len: 0 },
+        |envelope| envelope.bodies.body(which),
+    )
 }
 
 impl<T: Copy> Bodies<T> {
     // Of the eight the one that is asked for.
+    #[tactic(auto, unfolding(crate::specs::Layout::body))]
     fn body(self, which: EnvelopePart) -> T
         ensures { result ≡ body self which }
     {
@@ -98,6 +108,7 @@ impl<T: Copy> Bodies<T> {
 }
 
 // The form that an envelope's keys make.
+#[tactic(auto, unfolding(crate::specs::Reading::form_of))]
 pub fn form_of(envelope: Envelope) -> Form
     ensures { result ≡ form_of envelope }
 {
@@ -118,6 +129,7 @@ pub fn form_of(envelope: Envelope) -> Form
 }
 
 // The seed keys of that form: those that are there, unless the envelope is public.
+#[tactic(auto, using(crate::proofs::Forms::form_keys))]
 pub fn seed_keys_of(envelope: Envelope) -> SeedKeys
     ensures { result ≡ keys_of (form_of envelope) }
 {
@@ -130,6 +142,7 @@ pub fn seed_keys_of(envelope: Envelope) -> SeedKeys
 }
 
 // What an envelope shows, or its refusal.
+#[tactic(auto, unfolding(crate::specs::Reading::envelope_of, refusal::specs::Chain::unless_refused))]
 pub fn read(s: &[u8]) -> Result<Envelope, Refusal>
     ensures { result ≡ envelope_of s.now }
 {
@@ -138,6 +151,7 @@ pub fn read(s: &[u8]) -> Result<Envelope, Refusal>
 }
 
 // The checks, in document 01's order.
+#[tactic(auto, using(refusal::proofs::Chains::first_append), unfolding(crate::specs::Reading::envelope_checks, refusal::specs::Chain::unless_refused))]
 fn judge(s: &[u8]) -> Result<(), Refusal>
     ensures { result ≡ first_of (envelope_checks s.now) }
 {
@@ -146,6 +160,7 @@ fn judge(s: &[u8]) -> Result<(), Refusal>
 }
 
 // 1, 2 and 4: what a caller can answer without the reader.
+#[tactic(auto, unfolding(crate::specs::Reading::head_checks, refusal::specs::Chain::first_of, wire::specs::Numbers::le_of))]
 pub fn judge_head(s: &[u8]) -> Result<(), Refusal>
     ensures { result ≡ first_of (head_checks s.now) }
 {
@@ -169,38 +184,24 @@ fn judge_layout(s: &[u8]) -> Result<(), Refusal>
     if head.at.index_above_31() {
         return Err(Refusal::IndexAbove31);
     }
-    let n = lengths_of(s);
-    if end_of(n) != s.len() {
+    let n = Lengths::of(s);
+    if n.end() != s.len() {
         return Err(Refusal::LengthsDisagree);
     }
-    let bodies = bodies_of(n);
+    let bodies = n.places();
     judge_texts(
         wire::part(s, bodies.kdf),
         wire::part(s, bodies.agreement),
         wire::part(s, bodies.domain),
         wire::part(s, bodies.forest),
     )?;
-    judge_keys(head, n.l1_key, n.l2_key)
-}
-
-// Where the last body ends: 80 plus the eight lengths.
-fn end_of(n: Bodies<usize>) -> usize
-    requires { end_at n < 2 ^ 64 }
-    ensures { result ≡ end_at n }
-{
-    80 + n.kdf
-        + n.kdf_parameters
-        + n.agreement
-        + n.agreement_parameters
-        + n.domain
-        + n.forest
-        + n.l1_key
-        + n.l2_key
+    judge_keys(head, n.each.l1_key, n.each.l2_key)
 }
 
 // The rule of a text, for the four texts in body order. Inlined in reader and writer: as a call it costs an envelope of 88 bytes 18
 // instructions where it is read and 49 where it is written.
 #[inline(always)]
+#[tactic(auto, using(refusal::proofs::Chains::first_append), unfolding(crate::specs::Reading::four_texts, refusal::specs::Chain::unless_refused))]
 fn judge_texts(kdf: &[u8], agreement: &[u8], domain: &[u8], forest: &[u8]) -> Result<(), Refusal>
     ensures { result ≡ first_of (four_texts kdf.now agreement.now domain.now forest.now) }
 {
@@ -211,6 +212,7 @@ fn judge_texts(kdf: &[u8], agreement: &[u8], domain: &[u8], forest: &[u8]) -> Re
 }
 
 // The key rule, for keys of these lengths.
+#[tactic(auto, unfolding(refusal::specs::Chain::first_of))]
 fn judge_keys(head: Head, l1_length: usize, l2_length: usize) -> Result<(), Refusal>
     ensures { result ≡ first_of (key_checks (is_public head.flags) head.at head.public_length l1_length l2_length) }
 {
@@ -224,15 +226,17 @@ fn judge_keys(head: Head, l1_length: usize, l2_length: usize) -> Result<(), Refu
 }
 
 // What an accepted envelope shows.
+#[tactic(auto, unfolding(crate::specs::Reading::shown))]
 fn shown(s: &[u8]) -> Envelope
     ensures { result ≡ shown s.now }
 {
     Envelope {
         head: head_of(s),
-        bodies: bodies_of(lengths_of(s)),
+        bodies: Lengths::of(s).places(),
     }
 }
 
+#[tactic(auto, unfolding(crate::specs::Layout::head_of))]
 fn head_of(s: &[u8]) -> Head
     ensures { result ≡ head_of s.now }
 {
@@ -250,85 +254,129 @@ fn head_of(s: &[u8]) -> Head
     }
 }
 
-// Domain and forest lengths come after the keys' lengths.
-fn lengths_of(s: &[u8]) -> Bodies<usize>
-    ensures lengths { result ≡ lengths_of s.now }
-    ensures fits { end_at result < 2 ^ 64 }
-{
-    Bodies {
-        kdf: le32_at(s, 40) as usize,
-        kdf_parameters: le32_at(s, 44) as usize,
-        agreement: le32_at(s, 48) as usize,
-        agreement_parameters: le32_at(s, 52) as usize,
-        l1_key: le32_at(s, 64) as usize,
-        l2_key: le32_at(s, 68) as usize,
-        domain: le32_at(s, 72) as usize,
-        forest: le32_at(s, 76) as usize,
+impl Lengths {
+    // Domain and forest lengths come after the keys' lengths.
+    #[tactic(auto, unfolding(crate::specs::Layout::lengths_of))]
+    fn of(s: &[u8]) -> Lengths
+        ensures { result.each ≡ lengths_of s.now }
+    {
+        Lengths {
+            each: Bodies {
+                kdf: le32_at(s, 40) as usize,
+                kdf_parameters: le32_at(s, 44) as usize,
+                agreement: le32_at(s, 48) as usize,
+                agreement_parameters: le32_at(s, 52) as usize,
+                l1_key: le32_at(s, 64) as usize,
+                l2_key: le32_at(s, 68) as usize,
+                domain: le32_at(s, 72) as usize,
+                forest: le32_at(s, 76) as usize,
+            },
+        }
     }
-}
 
-// Domain and forest bodies come before the keys.
-fn bodies_of(n: Bodies<usize>) -> Bodies<Span>
-    requires { end_at n < 2 ^ 64 }
-    ensures { result ≡ bodies_of n }
-{
-    let kdf_parameters = 80 + n.kdf;
-    let agreement = kdf_parameters + n.kdf_parameters;
-    let agreement_parameters = agreement + n.agreement;
-    let domain = agreement_parameters + n.agreement_parameters;
-    let forest = domain + n.domain;
-    let l1_key = forest + n.forest;
-    let l2_key = l1_key + n.l1_key;
-    Bodies {
-        kdf: Span { at: 80, len: n.kdf },
-        kdf_parameters: Span {
-            at: kdf_parameters,
-            len: n.kdf_parameters,
-        },
-        agreement: Span {
-            at: agreement,
-            len: n.agreement,
-        },
-        agreement_parameters: Span {
-            at: agreement_parameters,
-            len: n.agreement_parameters,
-        },
-        domain: Span {
-            at: domain,
-            len: n.domain,
-        },
-        forest: Span {
-            at: forest,
-            len: n.forest,
-        },
-        l1_key: Span {
-            at: l1_key,
-            len: n.l1_key,
-        },
-        l2_key: Span {
-            at: l2_key,
-            len: n.l2_key,
-        },
+    // The lengths of what is given, within the limit.
+    fn given(bodies: Bodies<&[u8]>) -> Lengths
+        requires { envelope_length (given_in bodies) ≤ 65535 }
+        ensures { result.each ≡ given_lengths (given_in bodies.entry) }
+    {
+        Lengths {
+            each: Bodies {
+                kdf: bodies.kdf.len(),
+                kdf_parameters: bodies.kdf_parameters.len(),
+                agreement: bodies.agreement.len(),
+                agreement_parameters: bodies.agreement_parameters.len(),
+                domain: bodies.domain.len(),
+                forest: bodies.forest.len(),
+                l1_key: bodies.l1_key.len(),
+                l2_key: bodies.l2_key.len(),
+            },
+        }
+    }
+
+    // Where the last body ends: 80 plus the eight lengths.
+    fn end(self) -> usize
+        ensures { result ≡ end_at self.each }
+    {
+        let n = self.each;
+        80 + n.kdf
+            + n.kdf_parameters
+            + n.agreement
+            + n.agreement_parameters
+            + n.domain
+            + n.forest
+            + n.l1_key
+            + n.l2_key
+    }
+
+    // Where the bodies stand. Domain and forest come before the keys.
+    #[tactic(auto, unfolding(crate::specs::Layout::bodies_of))]
+    fn places(self) -> Bodies<Span>
+        ensures { result ≡ bodies_of self.each }
+    {
+        let n = self.each;
+        let kdf_parameters = 80 + n.kdf;
+        let agreement = kdf_parameters + n.kdf_parameters;
+        let agreement_parameters = agreement + n.agreement;
+        let domain = agreement_parameters + n.agreement_parameters;
+        let forest = domain + n.domain;
+        let l1_key = forest + n.forest;
+        let l2_key = l1_key + n.l1_key;
+        Bodies {
+            kdf: Span { at: 80, len: n.kdf },
+            kdf_parameters: Span {
+                at: kdf_parameters,
+                len: n.kdf_parameters,
+            },
+            agreement: Span {
+                at: agreement,
+                len: n.agreement,
+            },
+            agreement_parameters: Span {
+                at: agreement_parameters,
+                len: n.agreement_parameters,
+            },
+            domain: Span {
+                at: domain,
+                len: n.domain,
+            },
+            forest: Span {
+                at: forest,
+                len: n.forest,
+            },
+            l1_key: Span {
+                at: l1_key,
+                len: n.l1_key,
+            },
+            l2_key: Span {
+                at: l2_key,
+                len: n.l2_key,
+            },
+        }
     }
 }
 
 // The bytes of a body: those very bytes of s, or the empty part on a refusal and for an absent body.
-// One line in each record's crate, over its own reader and parts, as it would be in each impl of a trait.
+// As `span_of`, one line in each record's crate: a trait that has both would ask each for the kind of part, the reader, the places and the law
+// that they lie inside, which is more than these lines.
+#[tactic(auto, using(wire::proofs::Parts::start_in, crate::proofs::Reading::part_inside))]
 pub fn part(s: &[u8], which: EnvelopePart) -> &[u8]
     ensures bytes { result.now ≡ envelope_part s.now which }
-    ensures place { (result.ref_ptr.0 ≡ s.entry.ref_ptr.0) × (result.ref_ptr.1 ≡ s.entry.ref_ptr.1 + (envelope_span s.now which).at) }
+    ensures place { LiesAt result s.entry (envelope_span s.now which).at }
 {
     wire::part(s, span_of(read(s), which))
 }
 
 // Writes an envelope: what is given is judged, then 13. A refusal keeps the output's bytes; success keeps those behind the record.
+// The shape is that of each record's writer, over its own judge, length and `put`: a trait for it would ask for these three, and a type of
+// what is given.
+#[tactic(auto, using(crate::proofs::Writing::within_limit), unfolding(records::specs::Writing::output_of, records::specs::Writing::written_of, refusal::specs::Chain::refuse_if, refusal::specs::Chain::unless_refused))]
 pub fn write(out: &mut [u8], head: Head, bodies: Bodies<&[u8]>) -> Result<usize, Refusal>
     ensures answer { result ≡ envelope_written head (given_in bodies.entry) (length out.old) }
     ensures output { out.new ≡ output_of result (envelope_bytes head (given_in bodies.entry)) out.old }
 {
     judge_given(head, bodies)?;
-    let n = given_lengths(bodies);
-    let len = end_of(n);
+    let n = Lengths::given(bodies);
+    let len = n.end();
     if out.len() < len {
         return Err(Refusal::NoRoom);
     }
@@ -367,31 +415,14 @@ fn capped(bodies: Bodies<&[u8]>) -> usize
     sizes.iter().fold(80, |len, size| grown(len, *size))
 }
 
-// The lengths of what is given.
-fn given_lengths(bodies: Bodies<&[u8]>) -> Bodies<usize>
-    ensures { result ≡ given_lengths (given_in bodies.entry) }
-{
-    Bodies {
-        kdf: bodies.kdf.len(),
-        kdf_parameters: bodies.kdf_parameters.len(),
-        agreement: bodies.agreement.len(),
-        agreement_parameters: bodies.agreement_parameters.len(),
-        domain: bodies.domain.len(),
-        forest: bodies.forest.len(),
-        l1_key: bodies.l1_key.len(),
-        l2_key: bodies.l2_key.len(),
-    }
-}
-
 // The head, and each body into its own part of the output, by the writer of its kind: of parameters nothing is judged.
 #[tactic(auto, unfolding(crate::specs::Layout::bodies_of))]
-fn put(out: &mut [u8], head: Head, n: Bodies<usize>, bodies: Bodies<&[u8]>)
-    requires lengths { n ≡ given_lengths (given_in bodies) }
-    requires limit { end_at n ≤ 65535 }
-    requires room { end_at n ≤ length out.old }
+fn put(out: &mut [u8], head: Head, n: Lengths, bodies: Bodies<&[u8]>)
+    requires lengths { n.each ≡ given_lengths (given_in bodies) }
+    requires room { end_at n.each ≤ length out.old }
     ensures { out.new ≡ onto (envelope_bytes head (given_in bodies.entry)) out.old }
 {
-    let places = bodies_of(n);
+    let places = n.places();
     put_head(&mut out[0..80], head, n);
     text::put(&mut out[80..places.kdf_parameters.at], bodies.kdf);
     copy_into(
@@ -409,13 +440,12 @@ fn put(out: &mut [u8], head: Head, n: Bodies<usize>, bodies: Bodies<&[u8]>)
     text::put(&mut out[places.domain.at..places.forest.at], bodies.domain);
     text::put(&mut out[places.forest.at..places.l1_key.at], bodies.forest);
     keys::put(&mut out[places.l1_key.at..places.l2_key.at], bodies.l1_key);
-    keys::put(&mut out[places.l2_key.at..end_of(n)], bodies.l2_key);
+    keys::put(&mut out[places.l2_key.at..n.end()], bodies.l2_key);
 }
 
-fn put_head(dst: &mut [u8], head: Head, n: Bodies<usize>)
-    requires limit { end_at n ≤ 65535 }
-    requires room { 80 ≤ length dst.old }
-    ensures { dst.new ≡ onto (joined (head_pieces head n)) dst.old }
+fn put_head(dst: &mut [u8], head: Head, n: Lengths)
+    requires { 80 ≤ length dst.old }
+    ensures { dst.new ≡ onto (joined (head_pieces head n.each)) dst.old }
 {
     let front = [
         head.version,
@@ -426,16 +456,16 @@ fn put_head(dst: &mut [u8], head: Head, n: Bodies<usize>)
         head.at.l2.0,
     ];
     let lengths = [
-        n.kdf as u32,
-        n.kdf_parameters as u32,
-        n.agreement as u32,
-        n.agreement_parameters as u32,
+        n.each.kdf as u32,
+        n.each.kdf_parameters as u32,
+        n.each.agreement as u32,
+        n.each.agreement_parameters as u32,
         head.private_length,
         head.public_length,
-        n.l1_key as u32,
-        n.l2_key as u32,
-        n.domain as u32,
-        n.forest as u32,
+        n.each.l1_key as u32,
+        n.each.l2_key as u32,
+        n.each.domain as u32,
+        n.each.forest as u32,
     ];
     put_le32s(&mut dst[0..24], &front);
     head.root.put(&mut dst[24..40]);

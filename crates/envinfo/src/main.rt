@@ -16,7 +16,7 @@ use std::process::ExitCode;
 use wire::Span;
 
 // What the program says where it fails.
-#[derive(Clone, Copy)]
+#[derive(Clone, Copy, Debug, PartialEq, Eq)]
 enum Failure {
     Read,
     Write,
@@ -32,10 +32,7 @@ impl fmt::Display for Failure {
 }
 
 fn main(rt: HostRuntime) -> ExitCode {
-    match run(&mut rt.stdin(), &mut rt.stdout()) {
-        Ok(()) => ExitCode::SUCCESS,
-        Err(failure) => complain(&rt, failure),
-    }
+    input::ended(&rt, run(&mut rt.stdin(), &mut rt.stdout()))
 }
 
 // Of a reader that says which bytes it has, all of them are told, however many.
@@ -44,9 +41,7 @@ fn run<R: Read, W: Write>(from: &mut R, to: &mut W) -> Result<(), Failure>
     ensures unread { result ≡ Err Failure.Read → Keeps (W.contents to.old) (W.contents to.new) }
 {
     let mut buffer = [0; 65536];
-    let Ok(len) = input::read_all(from, &mut buffer) else {
-        return Err(Failure::Read);
-    };
+    let len = input::read_all(from, &mut buffer).map_err(|_| Failure::Read)?;
     print(
         to,
         envline::line_of(wire::part(&buffer, Span { at: 0, len })),
@@ -58,14 +53,5 @@ fn print<W: Write>(to: &mut W, line: Line) -> Result<(), Failure>
     ensures written { OnOk result (Appends (W.contents to.old) (W.contents to.new) (text_of line)) }
     ensures failed { OnErr result (result ≡ Err Failure.Write) }
 {
-    match to.write_all(line.as_bytes()) {
-        Ok(()) => Ok(()),
-        Err(_) => Err(Failure::Write),
-    }
-}
-
-// Where standard error fails too, there is no one to tell.
-fn complain(rt: &impl Eprint, failure: Failure) -> ExitCode {
-    let _ = rt.eprintln(failure);
-    ExitCode::FAILURE
+    to.write_all(line.as_bytes()).map_err(|_| Failure::Write)
 }

@@ -11,6 +11,7 @@ use envelope::Envelope;
 use gkid::Gkid;
 use keys::Form;
 use line::{Line, Text};
+use reach::Reach;
 
 // The line for an envelope, newline-ended.
 pub fn line_of(s: &[u8]) -> Line
@@ -25,8 +26,7 @@ pub fn line_of(s: &[u8]) -> Line
 // The words for an envelope: ENV, its identifier, the word for its keys and its reach total; or REFUSED and the number.
 #[tactic(auto, unfolding(crate::specs::Line::line_words))]
 pub fn shown<T: Text>(out: &mut T, s: &[u8])
-    ensures put { T.buffer out.new ≡ put_all (T.buffer out.old) (line_words (envelope_of s.now)) }
-    ensures lender { T.lender out.new ≡ T.lender out.old }
+    ensures { T.buffer out.new ≡ put_all (T.buffer out.old) (line_words (envelope_of s.now)) }
 {
     match envelope::read(s) {
         Ok(envelope) => accepted(out, envelope),
@@ -36,8 +36,7 @@ pub fn shown<T: Text>(out: &mut T, s: &[u8])
 
 #[tactic(auto, unfolding(line::specs::Text::put_all, words::specs::Words::identifier_words, reach::specs::Reaches::form_reach, crate::specs::Line::envelope_words))]
 fn accepted<T: Text>(out: &mut T, envelope: Envelope)
-    ensures put { T.buffer out.new ≡ put_all (T.buffer out.old) (envelope_words envelope) }
-    ensures lender { T.lender out.new ≡ T.lender out.old }
+    ensures { T.buffer out.new ≡ put_all (T.buffer out.old) (envelope_words envelope) }
 {
     let at = envelope.head.at;
     let form = envelope::form_of(envelope);
@@ -54,8 +53,5 @@ fn accepted<T: Text>(out: &mut T, envelope: Envelope)
 fn reach_total(form: Form, at: Gkid) -> u32
     ensures { result ≡ reach_total (form_reach form at) }
 {
-    match reach::form_reach(form, at) {
-        Ok(reach) => reach.total(),
-        Err(_) => 0,
-    }
+    reach::form_reach(form, at).map_or(0, Reach::total)
 }

@@ -104,6 +104,7 @@ impl From<RootId> for RootBytes {
 impl From<Result<usize, Refusal>> for WrittenAnswer {
     ghost from_gives = { λ written answer. answer ≡ written_answer written };
 
+    #[tactic(auto, unfolding(crate::specs::Shapes::written_answer, records::specs::Writing::written_number, records::specs::Writing::written_length))]
     fn from(written: Result<usize, Refusal>) -> WrittenAnswer {
         match written {
             Ok(len) => WrittenAnswer {
@@ -120,7 +121,9 @@ impl From<Result<usize, Refusal>> for WrittenAnswer {
     }
 }
 
-// A form's code. The C interface needs numbers, and neither type is of this crate, so that this is no `From`.
+// A form's code. The C interface needs numbers, and neither type is of this crate, so that this is no `From`; nor is it the variant's own
+// number, which would let C's codes move with the variants of `keys`.
+#[tactic(auto, unfolding(crate::specs::Codes::form_code))]
 pub fn form_code(form: Form) -> u32
     ensures { result ≡ form_code form }
 {
@@ -137,22 +140,16 @@ pub fn form_code(form: Form) -> u32
 pub fn form_from(code: u32) -> Form
     ensures { result ≡ form_from code }
 {
-    if code == 1 {
-        return Form::L1Only;
+    match code {
+        1 => Form::L1Only,
+        2 => Form::L2Only,
+        3 => Form::Both,
+        4 => Form::Public,
+        _ => Form::Keyless,
     }
-    if code == 2 {
-        return Form::L2Only;
-    }
-    if code == 3 {
-        return Form::Both;
-    }
-    if code == 4 {
-        return Form::Public;
-    }
-    Form::Keyless
 }
 
-// Yes is 1: the C interface has no bool.
+// Yes is 1: the C interface has no bool. It is std's `From` under the name of the definition by which the layouts tell it.
 pub fn bool_code(yes: bool) -> u32
     ensures { result ≡ bool_code yes }
 {

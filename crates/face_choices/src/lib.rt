@@ -54,6 +54,7 @@ impl From<Result<Reach, Refusal>> for ReachAnswer {
 impl From<Result<Choice, Refusal>> for ChoiceAnswer {
     ghost from_gives = { λ choice answer. answer ≡ choice_answer choice };
 
+    #[tactic(auto, unfolding(crate::specs::Choices::choice_answer, serving::specs::Choice::choice_number, crate::specs::Choices::which_code, crate::specs::Choices::chosen_key_code, serving::specs::Choice::choice_span))]
     fn from(choice: Result<Choice, Refusal>) -> ChoiceAnswer {
         match choice {
             Ok(Choice::Cached(serving)) => chosen(1, serving),
@@ -82,7 +83,9 @@ fn chosen(which: u32, serving: Serving) -> ChoiceAnswer
     }
 }
 
-// The C interface needs a number, and neither type is of this crate, so that this is no `From`.
+// The C interface needs a number, and neither type is of this crate, so that this is no `From`; nor is it the
+// variant's own number, as C's codes are the face's alone.
+#[tactic(auto, unfolding(crate::specs::Choices::key_code))]
 fn key_code(key: SeedKey) -> u32
     ensures { result ≡ key_code key }
 {

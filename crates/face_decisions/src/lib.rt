@@ -43,7 +43,8 @@ pub fn rights_from(code: u32) -> Rights
     }
 }
 
-// The code of rights.
+// The code of rights, which is no `From` for the same reason; nor is it the variant's own number, as C's codes are the face's alone.
+#[tactic(auto, unfolding(crate::specs::Decisions::rights_code))]
 pub fn rights_code(rights: Rights) -> u32
     ensures { result ≡ rights_code rights }
 {
@@ -72,6 +73,7 @@ impl From<RequestIndices> for Request {
 impl From<Request> for RequestIndices {
     ghost from_gives = { λ request shown. shown ≡ request_shown request };
 
+    #[tactic(auto, unfolding(crate::specs::Decisions::given_code, crate::specs::Decisions::root_bytes_shown))]
     fn from(request: Request) -> RequestIndices {
         RequestIndices {
             root_given: u32::from(request.root.is_some()),

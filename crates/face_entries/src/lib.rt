@@ -148,7 +148,8 @@ fn no_entry(refusal: u32, found: u32, index: u32, next: Place) -> StepAnswer
     }
 }
 
-// Codes of the C interface.
+// Codes of the C interface, which needs numbers; neither type is of this crate, so that this is no `From`; nor is it the
+// variant's own number, as C's codes are the face's alone.
 #[tactic(auto, unfolding(crate::specs::Entries::algorithm_code))]
 fn algorithm_code(algorithm: Algorithm) -> u32
     ensures { result ≡ algorithm_code algorithm }

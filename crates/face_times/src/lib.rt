@@ -43,6 +43,7 @@ impl From<Gkid> for IdentifierAnswer {
 impl From<Result<FileTime, Refusal>> for StartAnswer {
     ghost from_gives = { λ start answer. answer ≡ start_answer start };
 
+    #[tactic(auto, unfolding(crate::specs::Times::start_answer, gkid::specs::Start::start_number, gkid::specs::Start::start_shown))]
     fn from(start: Result<FileTime, Refusal>) -> StartAnswer {
         match start {
             Ok(time) => StartAnswer {
@@ -63,6 +64,7 @@ impl From<Result<FileTime, Refusal>> for StartAnswer {
 impl From<Result<Option<Gkid>, Refusal>> for IdentifierAnswer {
     ghost from_gives = { λ older answer. answer ≡ older_answer older };
 
+    #[tactic(auto, unfolding(crate::specs::Times::older_answer, gkid::specs::Older::older_number, gkid::specs::Older::older_found, gkid::specs::Older::older_shown))]
     fn from(older: Result<Option<Gkid>, Refusal>) -> IdentifierAnswer {
         match older {
             Ok(Some(at)) => at.into(),

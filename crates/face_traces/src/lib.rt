@@ -1,5 +1,5 @@
-// Document 02, No. 7, as C has its answers: a recorded request, one function for each way that it is read; and a replay with its totals,
-// as C hands them in and is shown them.
+// Document 02, No. 7, as C has its answers: a recorded request, or its refusal; and a replay with its totals, as C hands them in and is
+// shown them.
 #![tactic(auto)]
 
 ghost use Rattle.std.specs.Prelude.{◌≡◌, Ok, Err};
@@ -81,6 +81,7 @@ pub struct MergeAnswer {
 impl From<Recorded> for TraceAnswer {
     ghost from_gives = { λ recorded answer. answer ≡ trace_answer (Ok recorded) };
 
+    #[tactic(auto, unfolding(crate::specs::Records::trace_answer, trace::specs::Reading::record_number, crate::specs::Records::record_values))]
     fn from(recorded: Recorded) -> TraceAnswer {
         TraceAnswer {
             refusal: 0,
@@ -132,18 +133,16 @@ impl From<TallyNumbers> for Tally {
 fn clocks_from(code: u32, first: u64, last: u64) -> Option<Ends>
     ensures { result ≡ clocks_from code first last }
 {
-    if code == 1 {
-        return Some(Ends {
-            first: FileTime(first),
-            last: FileTime(last),
-        });
-    }
-    None
+    (code == 1).then(|| Ends {
+        first: FileTime(first),
+        last: FileTime(last),
+    })
 }
 
 impl From<Tally> for TallyNumbers {
     ghost from_gives = { λ tally numbers. numbers ≡ tally_shown tally };
 
+    #[tactic(auto, unfolding(crate::specs::Totals::tally_shown, crate::specs::Totals::clocks_code, crate::specs::Totals::first_clock, crate::specs::Totals::last_clock))]
     fn from(tally: Tally) -> TallyNumbers {
         match tally.clocks {
             None => numbers(tally, 0, 0, 0),
@@ -189,7 +188,9 @@ impl From<State> for ReplayState {
     }
 }
 
-// The next state; or the one asked with, where a count would not fit.
+// The next state; or the one asked with, where a count would not fit. It takes two values, so that it is no `From`: a tuple of them would
+// be made at its one call, and taken apart here.
+#[tactic(auto, unfolding(crate::specs::Replays::line_answer))]
 pub fn line_answer(state: State, stepped: Option<Stepped>) -> ReplayLine
     ensures { result ≡ line_answer state stepped }
 {
@@ -220,6 +221,7 @@ pub fn line_answer(state: State, stepped: Option<Stepped>) -> ReplayLine
 impl From<Progress> for ReplayAnswer {
     ghost from_gives = { λ progress answer. answer ≡ replay_answer progress };
 
+    #[tactic(auto, unfolding(crate::specs::Replays::replay_answer))]
     fn from(progress: Progress) -> ReplayAnswer {
         ReplayAnswer {
             stopped: stopped_code(progress.stopped),
@@ -231,7 +233,9 @@ impl From<Progress> for ReplayAnswer {
     }
 }
 
-// The C interface needs a number, and neither type is of this crate, so that this is no `From`.
+// The C interface needs a number, and neither type is of this crate, so that this is no `From`; nor is it the
+// variant's own number, as C's codes are the face's alone.
+#[tactic(auto, unfolding(crate::specs::Replays::stopped_code))]
 fn stopped_code(stopped: Stopped) -> u32
     ensures { result ≡ stopped_code stopped }
 {
@@ -245,6 +249,7 @@ fn stopped_code(stopped: Stopped) -> u32
 impl From<Option<Tally>> for MergeAnswer {
     ghost from_gives = { λ merged answer. answer ≡ merge_answer merged };
 
+    #[tactic(auto, unfolding(crate::specs::Totals::merge_answer))]
     fn from(merged: Option<Tally>) -> MergeAnswer {
         match merged {
             Some(total) => MergeAnswer {

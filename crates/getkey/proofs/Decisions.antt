@@ -1,15 +1,16 @@
 -- Laws of the decision: what an accepted answer shows, and what its request asks for.
-use Rattle.lemmas.proofs.Basics.{ℕ, ◌^◌, ◌<◌, Bool, true, false, cond, not, ◌&&◌, ◌||◌, true≢false, false≢true, List, [], ◌∷◌, ◌≡◌, refl, sym, ◌∙◌, ltb, length, take}
-use Rattle.std.specs.Prelude.{Result, Ok, Err, Option, None, Some}
-use Rattle.std.specs.Option.{is_none, is_some}
+use Rattle.lemmas.proofs.Basics.{arith, ℕ, ◌^◌, ◌<◌, Bool, true, false, cond, not, true≢false, List, [], ◌∷◌, ◌≡◌, refl, sym, ◌∙◌, length, take}
+use Rattle.std.specs.Prelude.{Result, Ok, Err, Option}
+use Rattle.std.proofs.lemmas.Option.{cond_some}
 use Rattle.rootid.specs.declared.RootId.{RootId}
 use Rattle.refusal.specs.declared.Refusal.{Refusal}
-use Rattle.refusal.specs.declared.Refusal.TheVariants.{TableLength, NoRootKey}
+use Rattle.refusal.specs.declared.Refusal.TheVariants.{TableLength}
 use Rattle.refusal.specs.Chain.{◌⇒◌, first_of, unless_refused}
 use Rattle.refusal.proofs.Chains.{accepted_pass, first_append, append-accepted, unless_zero}
 use Rattle.gkid.specs.declared.FileTime.{FileTime}
 use Rattle.gkid.specs.declared.Gkid.{Gkid}
-use Rattle.gkid.specs.Identifier.{gkid}
+use Rattle.gkid.specs.Identifier.{InGroup}
+use Rattle.gkid.specs.Start.{start_time}
 use Rattle.gkid.specs.Conversion.{gkid_at}
 use Rattle.gkid.proofs.Times.{up_to_now}
 use Rattle.keys.specs.declared.Form.{Form}
@@ -19,7 +20,7 @@ use Rattle.request.specs.Indices.{out_of_range, mixed, later_than_now, names, na
 use Rattle.request.specs.Narrowed.{narrowed_of}
 use Rattle.roottable.specs.Rows.{table_wrong}
 use Rattle.roottable.specs.Selection.{chosen_row}
-use Rattle.getkey.specs.Deciding.{rights_too_low, checks, granted_at, without_row, with_row, granting, decision_by_verdict, Starts, answer_number}
+use Rattle.getkey.specs.Deciding.{rights_too_low, checks, with_row, granting, decision_by_verdict, Starts, answer_number}
 use Rattle.getkey.specs.Waiting.{Accepted}
 use Rattle.request.proofs.Requests.{asked_of, narrowed_asks, Asks, latest, named, asks}
 
@@ -37,16 +38,16 @@ unfolding checks
 passed verdict rights q present len e = let p = accepted_pass _ e in search p
 
 -- 64 bits hold the start of what is named.
-abbrev pub Begins : Result (Option Gkid) Refusal → Type 0
-Begins (Ok asked) = Starts asked
-Begins (Err r) = Unit {0}
-
-pub begins : {verdict : Bool} {rights : Rights} (q : Request) (t : FileTime) → t.0 < 2 ^ 64 → Passed verdict rights q (gkid_at t) → Begins (narrowed_of q)
-begins q t h p = rw (narrowed_asks q p.ranged p.unmixed) (of (asks q p.ranged p.unmixed))
+pub begins : {verdict : Bool} {rights : Rights} (q : Request) (t : FileTime) {asked : Option Gkid} → t.0 < 2 ^ 64 → Passed verdict rights q (gkid_at t)
+    → narrowed_of q ≡ Ok asked → Starts asked
+begins q t {asked} h p e i some =
+    let same : asked_of q ≡ asked = grind (arith, e, narrowed_asks q p.ranged p.unmixed) in
+    let told = cond_some _ _ _ (same ∙ some) in
+    rw (← told.1) (of told.0 (asks q p.ranged p.unmixed))
   where
-    of : Asks q → Starts (asked_of q)
-    of (latest e l) = rw e tt
-    of (named e g l) = rw e (g, up_to_now (named_of q) t h g (sym (l (gkid_at t)) ∙ p.not-later))
+    of : names q ≡ true → Asks q → InGroup (named_of q) × (start_time (named_of q) < 2 ^ 64)
+    of n (latest e l) = absurd (true≢false (sym n ∙ e))
+    of n (named e g l) = (g, up_to_now (named_of q) t h g (sym (l (gkid_at t)) ∙ p.not-later))
 
 -- A refusal of the checks before 20 is the decision's.
 pub refused_decided : (verdict : Bool) (rights : Rights) (q : Request) (t : FileTime) (table : List ℕ) {r : Refusal}
@@ -83,26 +84,3 @@ unfolding decision_by_verdict checks answer_number
 accepted_decided verdict rights q t table e =
     let all = (unless_zero answer_number Err (λ r. refl) _ _ e).0 in
     passed_decided verdict rights q t table (passed verdict rights q (gkid_at t) (length table) (append-accepted (take 5 (checks verdict rights q (gkid_at t) (length table))) _ all).0)
-
--- What comes of a row or none: it is granted, and none is unless no root is given and the latest is asked for.
-pub granted_row : (row : Option ℕ) (root : Option RootId) (asked : Option Gkid) (at : Gkid) (form : Form) → is_none row && (is_some root || is_some asked) ≡ false
-    → Ok (record { at = at; form = form; row = row }) ≡ with_row (Ok row) root asked at form
-unfolding with_row without_row
-granted_row (Some k) root asked at form e = refl
-granted_row None None None at form e = refl
-granted_row None None (Some i) at form e = absurd (true≢false e)
-granted_row None (Some id) asked at form e = absurd (true≢false e)
-
-pub no_root_key : (row : Option ℕ) (root : Option RootId) (asked : Option Gkid) (at : Gkid) (form : Form) → is_none row && (is_some root || is_some asked) ≡ true
-    → Err NoRootKey ≡ with_row (Ok row) root asked at form
-unfolding with_row without_row
-no_root_key (Some k) root asked at form e = absurd (false≢true e)
-no_root_key None None None at form e = absurd (false≢true e)
-no_root_key None None (Some i) at form e = refl
-no_root_key None (Some id) asked at form e = refl
-
--- The identifier granted for a named one, by whether a root is given.
-pub given_root : (i : Gkid) (root : Option RootId) (present : Gkid) → granted_at (Some i) root present ≡ cond (is_some root) (cond (ltb i.l0.0 present.l0.0) (gkid i.l0.0 31 31) present) i
-unfolding granted_at
-given_root i None present = refl
-given_root i (Some id) present = refl

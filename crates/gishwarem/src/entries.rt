@@ -13,7 +13,8 @@ use face::WrittenAnswer;
 use face_entries::{EntryAnswer, ListAnswer, StepAnswer};
 use keylist::Place;
 
-// Arms that return: the answer is laid out where it is told. By one From of the Result, which was tried, it takes 103 instructions, and by this 86.
+// Arms that return: by one `From` of the Result, which was tried, it takes 103 instructions, and by this 86, where the reference over the same
+// face takes 95.
 #[unsafe(no_mangle)]
 pub extern "C" fn gw_entry_read(s: &[u8]) -> EntryAnswer
     ensures { result ≡ entry_answer (entry_of s.now) }

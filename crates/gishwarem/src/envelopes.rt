@@ -10,7 +10,8 @@ use envelope::{Bodies, Head};
 use face::WrittenAnswer;
 use face_envelopes::{EnvelopeAnswer, EnvelopeHead};
 
-// 1, 2 and 4 are answered before a reader is called, and each answer is laid out where it is told.
+// 1, 2 and 4 are answered before a reader is called. Three arms return, two of them a refusal: a `From` of the Result would serve the last two
+// alone.
 #[unsafe(no_mangle)]
 pub extern "C" fn gw_envelope_read(s: &[u8]) -> EnvelopeAnswer
     ensures { result ≡ envelope_answer (envelope_of s.now) }

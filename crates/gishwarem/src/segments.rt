@@ -14,7 +14,8 @@ use segment::{Head, Shifts};
 pub extern "C" fn gw_segment_read(s: &[u8]) -> SegmentAnswer
     ensures { result ≡ segment_answer (segment_of s.now) }
 {
-    // The refusal returns, so that the answer is laid out where it is told: as one value of both arms it is copied once more.
+    // The refusal returns: by one `From` of the Result, which was tried, it takes 16 to 20 instructions more, and so more than the reference over
+    // the same face, 136 of 16 blocks.
     match segment::read(s) {
         Ok(segment) => SegmentAnswer::from(segment),
         Err(refusal) => return SegmentAnswer::from(refusal),

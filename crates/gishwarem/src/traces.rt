@@ -20,6 +20,7 @@ use face_traces::{
 use report::State;
 use tally::Tally;
 
+// A `From` for each arm, as the other records' readers have them: one of the Result would be this match again.
 #[unsafe(no_mangle)]
 pub extern "C" fn gw_trace_read(s: &[u8]) -> TraceAnswer
     ensures { result ≡ trace_answer (record_of s.now) }

@@ -48,6 +48,7 @@ impl Gkid {
     };
 
     // The identifier of a reading (MS-GKDI 3.1.4.1, step 2): one division down to L2 steps, and that number split.
+    #[tactic(auto, using(crate::proofs::Times::one_division))]
     pub fn at(time: FileTime) -> Gkid
         ensures { result ≡ gkid_at time }
     {
@@ -60,6 +61,7 @@ impl Gkid {
     }
 
     // What refusal 5 is given for.
+    #[tactic(auto, unfolding(crate::specs::Identifier::index_above_31))]
     pub fn index_above_31(self) -> bool
         ensures { result ≡ index_above_31 self }
     {
@@ -74,6 +76,7 @@ impl Gkid {
     }
 
     // The reading at which an identifier starts: 5, then 21. What is not past the highest identifier starts within 64 bits, so that no product wraps here.
+    #[tactic(auto, using(crate::proofs::Order::in_group, crate::proofs::Order::ordinal, crate::proofs::Times::start_by_steps), unfolding(crate::specs::Conversion::highest, crate::specs::Conversion::gkid_at))]
     pub fn start(self) -> Result<FileTime, Refusal>
         ensures { result ≡ start_of self }
     {
@@ -96,6 +99,7 @@ impl Gkid {
     }
 
     // The next older identifier of its L0 group: 5 if an index is above 31; (L0, 0, 0) has none.
+    #[tactic(auto, unfolding(crate::specs::Older::older_of))]
     pub fn older(self) -> Result<Option<Gkid>, Refusal>
         ensures { result ≡ older_of self }
     {

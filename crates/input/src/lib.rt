@@ -1,11 +1,14 @@
-// The whole of an input, read into a lent buffer.
+// What the programs on standard input share: the whole of an input, read into a lent buffer, and how a program ends.
 #![tactic(auto)]
 
-ghost use Rattle.std.specs.Prelude.{◌≤◌, ◌<◌, length, take, IfOk};
+ghost use Rattle.std.specs.Prelude.{◌≡◌, ◌≤◌, ◌<◌, length, take, IfOk, is_ok, if◌then◌else◌};
 ghost use Rattle.std.specs.Io.KnownBytes.{Consumes, IsAtEnd};
+ghost use Rattle.std.specs.Process.{exit_status};
 
+use std::fmt::Display;
 use std::io;
 use std::io::Read;
+use std::process::ExitCode;
 
 // Reads until the input ends, the buffer is full or a read fails: a longer input just fills the buffer. The answer is how many bytes were
 // read to its start. They are those that the reader had left, where its type says which; of a file or a stream no contract can say them.
@@ -24,4 +27,17 @@ pub fn read_all<R: Read>(from: &mut R, buffer: &mut [u8]) -> io::Result<usize>
         at += more;
     }
     Ok(at)
+}
+
+// How a program ends: what it says where it fails goes to standard error, and where that fails too, there is no one to tell.
+pub fn ended<F: Display + Drop>(rt: &impl Eprint, outcome: Result<(), F>) -> ExitCode
+    ensures { exit_status result ≡ (if is_ok outcome then 0 else 1) }
+{
+    match outcome {
+        Ok(()) => ExitCode::SUCCESS,
+        Err(failure) => {
+            let _ = rt.eprintln(failure);
+            ExitCode::FAILURE
+        }
+    }
 }

@@ -16,7 +16,7 @@ use Rattle.keyentry.proofs.Tests.{inside}
 abbrev pub answer : Outcome → Entry → Result Entry Refusal
 answer o e = unless_refused Err o (Ok e)
 
--- The answer from the outcome of the checks, and what is shown.
+-- The answer from the outcome of the checks, and what is shown; cited by no proof, it stands, since the documents named it.
 pub entry_judged : (s : List ℕ) {o : Outcome} {e : Entry} → o ≡ first_of (entry_checks s) → e ≡ shown s → entry_of s ≡ answer o e
 unfolding entry_of
 entry_judged s judged is-shown = rw (judged, is-shown)

@@ -3,7 +3,7 @@
 
 ghost use Rattle.std.specs.Prelude.{◌≡◌, Ok, ℕ, ◌+◌, ◌≤◌, length};
 ghost use Rattle.refusal.specs.Chain.{first_of};
-ghost use Rattle.wire.specs.Parts.{onto};
+ghost use Rattle.wire.specs.Parts.{onto, LiesAt};
 ghost use Rattle.records.specs.Writing.{output_of};
 ghost use Rattle.keyentry.specs.Layout.{outside, run_checks, item_checks};
 ghost use Rattle.keyentry.specs.Reading.{entry_checks, shown, entry_of, algorithm_of, span_of, entry_span, entry_part};
@@ -89,10 +89,7 @@ impl Item {
 pub fn span_of(read: Result<Entry, Refusal>, which: EntryPart) -> Span
     ensures { result ≡ span_of read which }
 {
-    match read {
-        Ok(entry) => entry.span(which),
-        Err(_) => Span { at: 0, len: 0 },
-    }
+    read.map_or(Span { at: 0, len: 0 }, |entry| entry.span(which))
 }
 
 // What an entry shows, or its refusal.
@@ -105,6 +102,7 @@ pub fn read(s: &[u8]) -> Result<Entry, Refusal>
 }
 
 // The checks, in document 01's order; a number is read just before its check.
+#[tactic(auto, unfolding(crate::specs::Reading::entry_checks, refusal::specs::Chain::first_of))]
 fn judge(s: &[u8]) -> Result<(), Refusal>
     ensures { result ≡ first_of (entry_checks s.now) }
 {
@@ -133,7 +131,9 @@ fn judge(s: &[u8]) -> Result<(), Refusal>
     judge_items(item, fek, len)
 }
 
-// The checks behind the item's own length, which is read only where it lies inside.
+// The checks behind the item's own length, which is read only where it lies inside. Items and length stay apart: as one value they
+// would be put together here, and taken apart in each test.
+#[tactic(auto, unfolding(crate::specs::Layout::item_checks, refusal::specs::Chain::first_of))]
 fn judge_items(item: Item, fek: Item, len: usize) -> Result<(), Refusal>
     ensures { result ≡ first_of (item_checks item.at item.len fek.at fek.len len) }
 {
@@ -153,6 +153,7 @@ fn judge_items(item: Item, fek: Item, len: usize) -> Result<(), Refusal>
 }
 
 // 8 and 9: one item ends before the other begins, and the runs around them are short.
+#[tactic(auto, using(crate::proofs::Tests::runs_turned, crate::proofs::Tests::run_overlap))]
 fn judge_runs(item: Item, fek: Item, len: usize) -> Result<(), Refusal>
     ensures { result ≡ first_of (run_checks item.at item.len fek.at fek.len len) }
 {
@@ -166,6 +167,7 @@ fn judge_runs(item: Item, fek: Item, len: usize) -> Result<(), Refusal>
 }
 
 // 9, where the first item ends before the second begins.
+#[tactic(auto, using(crate::proofs::Tests::run_before_lem, crate::proofs::Tests::run_between_lem, crate::proofs::Tests::run_after_lem, crate::proofs::Tests::runs_short))]
 fn judge_ordered(first: Item, second: Item, len: usize) -> Result<(), Refusal>
     requires { first.at + first.len ≤ second.at }
     ensures { result ≡ first_of (run_checks first.at first.len second.at second.len len) }
@@ -183,6 +185,7 @@ fn judge_ordered(first: Item, second: Item, len: usize) -> Result<(), Refusal>
 }
 
 // What an accepted entry shows.
+#[tactic(auto, unfolding(crate::specs::Reading::shown))]
 fn shown(s: &[u8]) -> Entry
     ensures { result ≡ shown s.now }
 {
@@ -201,15 +204,19 @@ fn shown(s: &[u8]) -> Entry
 }
 
 // The bytes of a part: those very bytes of s, or the empty part on a refusal.
-// One line in each record's crate, over its own reader and parts, as it would be in each impl of a trait.
+// As `span_of`, one line in each record's crate: a trait that has both would ask each for the kind of part, the reader, the places and the law
+// that they lie inside, which is more than these lines.
+#[tactic(auto, using(wire::proofs::Parts::start_in, crate::proofs::Reading::part_inside))]
 pub fn part(s: &[u8], which: EntryPart) -> &[u8]
     ensures bytes { result.now ≡ entry_part s.now which }
-    ensures place { (result.ref_ptr.0 ≡ s.entry.ref_ptr.0) × (result.ref_ptr.1 ≡ s.entry.ref_ptr.1 + (entry_span s.now which).at) }
+    ensures place { LiesAt result s.entry (entry_span s.now which).at }
 {
     wire::part(s, span_of(read(s), which))
 }
 
 // Writes an entry: what is given is judged, then 13. A refusal keeps the output's bytes; success keeps those behind the record.
+// The shape is that of each record's writer, over its own judge, length and `put`: a trait for it would ask for these three, and a type of
+// what is given. As one value it would be put together by each caller, and taken apart in `put`.
 pub fn write(out: &mut [u8], flags: u32, item: &[u8], fek: &[u8]) -> Result<usize, Refusal>
     ensures answer { result ≡ entry_written flags item.now fek.now (length out.old) }
     ensures output { out.new ≡ output_of result (entry_bytes flags item.now fek.now) out.old }

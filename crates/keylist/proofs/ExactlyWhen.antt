@@ -20,9 +20,9 @@ use Rattle.keylist.specs.WellFormed.{Entries, none, more, WellFormedList}
 use Rattle.keylist.proofs.Stepping.{lying}
 
 -- an answer that is 0: the checks that come first are passed, and what stands behind them is 0
-passed_on : (o : Outcome) (index : ℕ) (rest : Result ℕ ListRefusal) → list_number (unless_refused (refused_at index) o rest) ≡ 0 → (o ≡ Ok tt) × (list_number rest ≡ 0)
+behind_checks : (o : Outcome) (index : ℕ) (rest : Result ℕ ListRefusal) → list_number (unless_refused (refused_at index) o rest) ≡ 0 → (o ≡ Ok tt) × (list_number rest ≡ 0)
 unfolding list_number
-passed_on o index rest = unless_zero list_number (refused_at index) (λ r. refl) o rest
+behind_checks o index rest = unless_zero list_number (refused_at index) (λ r. refl) o rest
 
 -- the entry's record, then what follows it
 split : (s : List ℕ) (at : ℕ) → length_at s at ≤ length s - at → 20 ≤ length_at s at → record_at s at ++ drop (at + length_at s at) s ≡ drop at s
@@ -38,7 +38,7 @@ accepted-entries zero s at index z =
     (λ q w. absurd (number_not-zero BytesLeft w))
     z
 accepted-entries (suc n) s at index z =
-    let told = passed_on (first_of (place_checks s at)) index _ z in
+    let told = behind_checks (first_of (place_checks s at)) index _ z in
     let t = append-accepted (extent_checks s at) (entry_checks (record_at s at)) told.0 in
     let l = lying s at _ t.0 refl in
     let accepted = ap entry_number (pass_shown (record_at s at) t.1) in
@@ -49,7 +49,7 @@ accepted-entries (suc n) s at index z =
 pub accepted_well_formed_list : (s : List ℕ) → list_number (list_of s) ≡ 0 → WellFormedList s
 unfolding list_of list_checks
 accepted_well_formed_list s z =
-    let told = passed_on (first_of (list_checks s)) 0 _ z in
+    let told = behind_checks (first_of (list_checks s)) 0 _ z in
     let t = accepted_pass (list_checks s) told.0 in
     record { limit = ltb-false 65535 (length s) t.0; head = ltb-false (length s) 4 t.1.0; entries = accepted-entries (count_of s) s 4 0 told.1 }
 
@@ -109,9 +109,9 @@ entries_counted zero s at index z =
     (λ q w. absurd (number_not-zero BytesLeft w))
     z
 entries_counted (suc n) s at index z =
-    let told = passed_on (first_of (place_checks s at)) index _ z in
+    let told = behind_checks (first_of (place_checks s at)) index _ z in
     rw told.0 (entries_counted n s (at + length_at s at) (index + 1) told.1 ∙ ap Ok (omega arith))
 
 pub accepted_counted : (s : List ℕ) → list_number (list_of s) ≡ 0 → list_of s ≡ Ok (count_of s)
 unfolding list_of unless_refused
-accepted_counted s z = let told = passed_on (first_of (list_checks s)) 0 _ z in rw told.0 (entries_counted (count_of s) s 4 0 told.1 ∙ ap Ok (omega arith))
+accepted_counted s z = let told = behind_checks (first_of (list_checks s)) 0 _ z in rw told.0 (entries_counted (count_of s) s 4 0 told.1 ∙ ap Ok (omega arith))

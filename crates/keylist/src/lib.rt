@@ -4,6 +4,7 @@
 ghost use Rattle.std.specs.Prelude.{◌≡◌, ◌+◌, ◌≤◌, ◌<◌, length};
 ghost use Rattle.refusal.specs.Chain.{first_of};
 ghost use Rattle.refusal.specs.Number.{outcome_number};
+ghost use Rattle.wire.specs.Parts.{LiesAt};
 ghost use Rattle.keylist.specs.Reading.{extent_checks, extent_of, bounds_number, bounds_span, list_of};
 ghost use Rattle.keylist.specs.Passing.{entry_at};
 ghost use Rattle.keylist.specs.Stepping.{end_at, arrived, advance_of, list_span, list_part};
@@ -68,7 +69,8 @@ impl Place {
 }
 
 // One step of the walk: the entry at a place, or the end, or the refusal (the list's 1 and 2; then the list rule's
-// and the reader's, given for the entry). At the last two the place stays.
+// and the reader's, given for the entry). At the last two the place stays. An entry's answer is matched, as a step beside its place is no Result;
+// list and place stay apart, as a host holds the place alone (`gw_list_step`).
 pub fn next_step(list: &[u8], place: Place) -> Advance
     ensures { result ≡ advance_of list.now place }
 {
@@ -97,7 +99,7 @@ pub fn next_step(list: &[u8], place: Place) -> Advance
 // A part of the entry at a place: those very bytes of the list, or the empty part where the step there shows no entry.
 pub fn part(list: &[u8], place: Place, which: EntryPart) -> &[u8]
     ensures bytes { result.now ≡ list_part list.now place which }
-    ensures place { (result.ref_ptr.0 ≡ list.entry.ref_ptr.0) × (result.ref_ptr.1 ≡ list.entry.ref_ptr.1 + (list_span list.now place which).at) }
+    ensures place { LiesAt result list.entry (list_span list.now place which).at }
 {
     wire::part(list, part_at(list, place, which))
 }
@@ -141,6 +143,7 @@ pub fn extent(list: &[u8], at: usize) -> Result<Span, Refusal>
 }
 
 // Behind the last entry: the end, or 22 where bytes are left.
+#[tactic(auto, unfolding(crate::specs::Stepping::end_at, crate::specs::Stepping::arrived, crate::specs::Stepping::place_after))]
 fn finish(list: &[u8], place: Place) -> Advance
     ensures { result ≡ arrived list.now place (end_at list.now place.at) }
 {
@@ -166,7 +169,8 @@ fn entry_at(list: &[u8], at: usize) -> Result<(Entry, usize), Refusal>
     Ok((entry, span.len))
 }
 
-// The list's count, or its refusal, in one pass.
+// The list's count, or its refusal, in one pass. The two checks of its head stand in `next_step` too: shared, each would have to tell the refusal
+// its own way again. A `map_err` with `?` was tried for the entry's refusal, and its proof did not close.
 pub fn judge(list: &[u8]) -> Result<u32, ListRefusal>
     ensures { result ≡ list_of list.now }
 {

@@ -29,6 +29,7 @@ pub struct SeedKeys {
 }
 
 // L1 key: length 0 or 64, and 0 if public or if L1 = 0 and L2 is not 31.
+#[tactic(auto, unfolding(crate::specs::KeyRule::l1_key_allowed))]
 fn l1_key_allowed(public: bool, at: Gkid, len: usize) -> bool
     ensures { result ≡ l1_key_allowed public at len }
 {
@@ -42,6 +43,7 @@ fn l1_key_allowed(public: bool, at: Gkid, len: usize) -> bool
 }
 
 // L2 key: 0 for a seed if L2 = 31; else 0, or 64 for a seed, or the public key length for a public envelope.
+#[tactic(auto, unfolding(crate::specs::KeyRule::l2_key_allowed))]
 fn l2_key_allowed(public: bool, at: Gkid, public_length: usize, len: usize) -> bool
     ensures { result ≡ l2_key_allowed public at public_length len }
 {
@@ -54,6 +56,7 @@ fn l2_key_allowed(public: bool, at: Gkid, public_length: usize, len: usize) -> b
     len == 0 || len == 64
 }
 
+#[tactic(auto, unfolding(crate::specs::KeyRule::keys_allowed))]
 fn keys_allowed(
     public: bool,
     at: Gkid,
@@ -67,7 +70,8 @@ fn keys_allowed(
 }
 
 // Whether the rule accepts keys of these lengths at an identifier, or its refusal, 11; that an index is above 31 is not the rule's to say. The five
-// stay apart, as a head has them and as the definitions take them: neither key's rule asks all.
+// stay apart here and in `keys_allowed`: as a struct they would be put together at the one call, and taken apart in the next line.
+#[tactic(auto, unfolding(crate::specs::KeyRule::key_checks))]
 pub fn judge(
     public: bool,
     at: Gkid,
@@ -91,6 +95,7 @@ pub fn put(dst: &mut [u8], key: &[u8])
 
 impl Form {
     // The seed keys of a form. A public key is none.
+    #[tactic(auto, unfolding(crate::specs::Forms::keys_of))]
     pub fn keys(self) -> SeedKeys
         ensures { result ≡ keys_of self }
     {
@@ -118,6 +123,7 @@ impl Form {
 
 // The form that seed rights give at an identifier, told by L2 and then L1 whatever they are; where one is above 31, a seed envelope with
 // that form's keys is refused 5.
+#[tactic(auto, unfolding(crate::specs::Forms::seed_form))]
 pub fn seed_form(at: Gkid) -> Form
     ensures { result ≡ seed_form at }
 {
@@ -132,6 +138,7 @@ pub fn seed_form(at: Gkid) -> Form
 
 impl SeedKeys {
     // What the key rule comes to for a seed's 64-byte keys: no L1 key at L1 = 0 and L2 not 31, no L2 key at L2 = 31.
+    #[tactic(auto, using(crate::proofs::FormLaws::seed_keys_lem))]
     fn are_barred(self, at: Gkid) -> bool
         ensures { result ≡ not (keys_allowed false at 0 (seed_key_length self.l1) (seed_key_length self.l2)) }
     {
@@ -140,6 +147,7 @@ impl SeedKeys {
     }
 
     // What a seed envelope at an identifier with just those keys is answered: 5, then the key rule.
+    #[tactic(auto, unfolding(crate::specs::Forms::seed_checks, refusal::specs::Chain::first_of, crate::specs::KeyRule::key_checks))]
     pub fn judge(self, at: Gkid) -> Result<(), Refusal>
         ensures { result ≡ first_of (seed_checks self at) }
     {

@@ -12,7 +12,7 @@ pub cond_else : {A : Type 0} (t : Bool) (x : A) {y z : A} → (t ≡ false → y
 cond_else true x f = refl
 cond_else false x f = f refl
 
--- three tests, one behind the other, that come to the same are one
+-- three tests, one behind the other, that come to the same are one; cited by no proof, it stands, since the documents named it
 pub cond_any : {A : Type 0} (a b c : Bool) (x y : A) → cond a x (cond b x (cond c x y)) ≡ cond (a || b || c) x y
 cond_any true b c x y = refl
 cond_any false true c x y = refl

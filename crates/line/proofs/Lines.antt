@@ -1,5 +1,6 @@
 -- Laws of pieces put behind text, in lent bytes and in a line.
 use Rattle.lemmas.proofs.Basics.{ℕ, ◌+◌, ◌-◌, ◌≤◌, ◌<◌, arith, List, [], ◌∷◌, ◌++◌, append-nil, append_assoc, ◌≡◌, refl, sym, ap, ◌∙◌, leb, length, take, drop, length-append, length-take, length-drop, length-take-le, take_at, drop-drop, le-leb, lt-leb, leb-true, leb-false}
+use Rattle.std.specs.Borrow.{GName}
 use borrow.Rule.Slice.PartMut.{put_mid, Post-is}
 use Rattle.lemmas.proofs.Cases.{by_cases, cond_cases}
 use Rattle.wire.specs.Parts.{onto, joined}
@@ -11,20 +12,30 @@ unfolding behind
 behind_in text piece h = rw (le-leb (length text + length piece) room h)
 
 -- A piece put into lent bytes, where it fits and where it does not.
-pub put_in : (bytes piece : List ℕ) (len : ℕ) → len + length piece ≤ length bytes
-    → put (buffer bytes len) piece ≡ buffer (take len bytes ++ (piece ++ drop (len + length piece) bytes)) (len + length piece)
+pub put_in : (b : Buffer) (piece : List ℕ) → b.len + length piece ≤ length b.bytes
+    → put b piece ≡ buffer b.lender (take b.len b.bytes ++ (piece ++ drop (b.len + length piece) b.bytes)) (b.len + length piece)
 unfolding put
-put_in bytes piece len h = rw (le-leb (len + length piece) (length bytes) h)
+put_in b piece h = rw (le-leb (b.len + length piece) (length b.bytes) h)
 
-pub put_out : (bytes piece : List ℕ) (len : ℕ) → length bytes < len + length piece → put (buffer bytes len) piece ≡ buffer bytes len
+pub put_out : (b : Buffer) (piece : List ℕ) → length b.bytes < b.len + length piece → put b piece ≡ b
 unfolding put
-put_out bytes piece len h = rw (lt-leb (len + length piece) (length bytes) h)
+put_out b piece h = rw (lt-leb (b.len + length piece) (length b.bytes) h)
+
+-- The bytes stay their lender's, and whose they are makes no difference to what is put.
+pub put_lender : (b : Buffer) (piece : List ℕ) → (put b piece).lender ≡ b.lender
+unfolding put
+put_lender b piece = cond_cases {A = Buffer} (λ c. c.lender ≡ b.lender) (leb (b.len + length piece) (length b.bytes)) (λ _. refl) (λ _. refl)
+
+pub put_likewise : (b now : Buffer) (piece : List ℕ) (lender : GName) → now ≡ put b piece → buffer lender now.bytes now.len ≡ put (buffer lender b.bytes b.len) piece
+unfolding put
+put_likewise b now piece lender is =
+    by_cases (λ _. buffer lender now.bytes now.len ≡ put (buffer lender b.bytes b.len) piece) (leb (b.len + length piece) (length b.bytes)) (λ q. rw (is, q)) (λ q. rw (is, q))
 
 -- The part behind the text is lent, filled with the piece, and comes back.
-pub put_filled : (bytes piece : List ℕ) (len end : ℕ) {last : List ℕ} → end ≡ len + length piece → end ≤ length bytes → last ≡ piece
-    → buffer (put_mid len (end - len) bytes last) end ≡ put (buffer bytes len) piece
-put_filled bytes piece len end {last} is fits filled =
-    rw (is, filled, Post-is len (len + length piece) bytes (omega arith)) (sym (put_in bytes piece len (omega arith)))
+pub put_filled : (b : Buffer) (piece : List ℕ) (end : ℕ) {last : List ℕ} → end ≡ b.len + length piece → end ≤ length b.bytes → last ≡ piece
+    → buffer b.lender (put_mid b.len (end - b.len) b.bytes last) end ≡ put b piece
+put_filled b piece end {last} is fits filled =
+    rw (is, filled, Post-is b.len (b.len + length piece) b.bytes (omega arith)) (sym (put_in b piece (omega arith)))
 
 -- the text so far
 abbrev pub text_in : Buffer → List ℕ
@@ -36,27 +47,27 @@ left_out bytes [] len long over = cond_cases (λ t. take len bytes ≡ t) (leb (
 left_out bytes (b ∷ bs) len long over = rw (lt-leb (length (take len bytes) + length (b ∷ bs)) room (omega (arith, length-take len bytes)))
 
 -- In lent bytes of a line's size a piece is put as behind a line; where len is over the room the line is full.
-pub put-behind : (bytes piece : List ℕ) (len : ℕ) → length bytes ≡ room → text_in (put (buffer bytes len) piece) ≡ behind (take len bytes) piece
-put-behind bytes piece len long =
-    by_cases (λ _. text_in (put (buffer bytes len) piece) ≡ behind (take len bytes) piece) (leb (len + length piece) (length bytes))
+pub put-behind : (b : Buffer) (piece : List ℕ) → length b.bytes ≡ room → text_in (put b piece) ≡ behind (text_in b) piece
+put-behind b piece long =
+    by_cases (λ _. text_in (put b piece) ≡ behind (text_in b) piece) (leb (b.len + length piece) (length b.bytes))
     (λ q. let fits = leb-true _ _ q in
-    let size : length (take len bytes) ≡ len = length-take-le len bytes (omega arith) in
-    let all : length (take len bytes ++ piece) ≡ len + length piece = length-append (take len bytes) piece ∙ omega arith in
-    ap text_in (put_in bytes piece len fits)
-    ∙ ap (take (len + length piece)) (sym (append_assoc (take len bytes) piece (drop (len + length piece) bytes)))
-    ∙ take_at (take len bytes ++ piece) _ (len + length piece) all ∙ sym (behind_in (take len bytes) piece (omega arith)))
+    let size : length (text_in b) ≡ b.len = length-take-le b.len b.bytes (omega arith) in
+    let all : length (text_in b ++ piece) ≡ b.len + length piece = length-append (text_in b) piece ∙ omega arith in
+    ap text_in (put_in b piece fits)
+    ∙ ap (take (b.len + length piece)) (sym (append_assoc (text_in b) piece (drop (b.len + length piece) b.bytes)))
+    ∙ take_at (text_in b ++ piece) _ (b.len + length piece) all ∙ sym (behind_in (text_in b) piece (omega arith)))
     (λ q. let over = leb-false _ _ q in
-    ap text_in (put_out bytes piece len over) ∙ left_out bytes piece len long (omega arith))
+    ap text_in (put_out b piece over) ∙ left_out b.bytes piece b.len long (omega arith))
 
 -- The bytes stay as many, and the text stays inside them.
-pub length-put : (bytes piece : List ℕ) (len : ℕ) → length (put (buffer bytes len) piece).bytes ≡ length bytes
-length-put bytes piece len =
-    by_cases (λ _. length (put (buffer bytes len) piece).bytes ≡ length bytes) (leb (len + length piece) (length bytes))
+pub length-put : (b : Buffer) (piece : List ℕ) → length (put b piece).bytes ≡ length b.bytes
+length-put b piece =
+    by_cases (λ _. length (put b piece).bytes ≡ length b.bytes) (leb (b.len + length piece) (length b.bytes))
     (λ q. let fits = leb-true _ _ q in
-    let size : length (take len bytes) ≡ len = length-take-le len bytes (omega arith) in
-    let whole : length (take len bytes ++ (piece ++ drop (len + length piece) bytes)) ≡ length bytes = rw (length-append, length-append, length-drop) (omega arith) in
-    ap (λ b. length b.bytes) (put_in bytes piece len fits) ∙ whole)
-    (λ q. ap (λ b. length b.bytes) (put_out bytes piece len (leb-false _ _ q)))
+    let size : length (text_in b) ≡ b.len = length-take-le b.len b.bytes (omega arith) in
+    let whole : length (text_in b ++ (piece ++ drop (b.len + length piece) b.bytes)) ≡ length b.bytes = rw (length-append, length-append, length-drop) (omega arith) in
+    ap (λ b. length b.bytes) (put_in b piece fits) ∙ whole)
+    (λ q. ap (λ b. length b.bytes) (put_out b piece (leb-false _ _ q)))
 
 -- Pieces put one after the other are laid behind the line.
 pub put-append : (b : Buffer) (pieces others : List (List ℕ)) → put_all (put_all b pieces) others ≡ put_all b (pieces ++ others)
@@ -64,17 +75,15 @@ unfolding put_all
 put-append b [] others = refl
 put-append b (piece ∷ pieces) others = put-append (put b piece) pieces others
 
-pub put-laid : (pieces : List (List ℕ)) (bytes : List ℕ) (len : ℕ) → length bytes ≡ room → text_in (put_all (buffer bytes len) pieces) ≡ laid (take len bytes) pieces
+pub put-laid : (b : Buffer) (pieces : List (List ℕ)) → length b.bytes ≡ room → text_in (put_all b pieces) ≡ laid (text_in b) pieces
 unfolding put_all laid
-put-laid [] bytes len long = refl
-put-laid (piece ∷ pieces) bytes len long =
-    let next = put (buffer bytes len) piece in
-    put-laid pieces next.bytes next.len (length-put bytes piece len ∙ long) ∙ ap (λ t. laid t pieces) (put-behind bytes piece len long)
+put-laid b [] long = refl
+put-laid b (piece ∷ pieces) long = put-laid (put b piece) pieces (length-put b piece ∙ long) ∙ ap (λ t. laid t pieces) (put-behind b piece long)
 
 -- Text so far, `done`, at the start of s, and pieces put behind it, which fit.
-put_next : (done piece s : List ℕ) → length (done ++ piece) ≤ length s
-    → put (buffer (onto done s) (length done)) piece ≡ buffer (onto (done ++ piece) s) (length (done ++ piece))
-put_next done piece s h =
+put_next : {lender : GName} (done piece s : List ℕ) → length (done ++ piece) ≤ length s
+    → put (buffer lender (onto done s) (length done)) piece ≡ buffer lender (onto (done ++ piece) s) (length (done ++ piece))
+put_next {lender} done piece s h =
     let sum = length-append done piece in
     let fits : length done + length piece ≤ length (onto done s) = rw (length-onto done s) (omega arith) in
     let before : take (length done) (onto done s) ≡ done = take-onto done s (omega arith) in
@@ -82,15 +91,15 @@ put_next done piece s h =
     sym (drop-drop (length piece) (length done) (onto done s)) ∙ ap (drop (length piece)) (drop-onto done s (omega arith))
     ∙ drop-drop (length piece) (length done) s ∙ ap (λ n. drop n s) (sym sum)
     in
-    put_in (onto done s) piece (length done) fits
-    ∙ (λ i. buffer (before i ++ (piece ++ after i)) (sym sum i))
-    ∙ ap (λ t. buffer t (length (done ++ piece))) (sym (append_assoc done piece (drop (length (done ++ piece)) s)) ∙ sym (onto_in (done ++ piece) s h))
+    put_in (buffer lender (onto done s) (length done)) piece fits
+    ∙ (λ i. buffer lender (before i ++ (piece ++ after i)) (sym sum i))
+    ∙ ap (λ t. buffer lender t (length (done ++ piece))) (sym (append_assoc done piece (drop (length (done ++ piece)) s)) ∙ sym (onto_in (done ++ piece) s h))
 
-pub put-pieces : (done s : List ℕ) (pieces : List (List ℕ)) → length (done ++ joined pieces) ≤ length s
-    → put_all (buffer (onto done s) (length done)) pieces ≡ buffer (onto (done ++ joined pieces) s) (length (done ++ joined pieces))
+pub put-pieces : {lender : GName} (done s : List ℕ) (pieces : List (List ℕ)) → length (done ++ joined pieces) ≤ length s
+    → put_all (buffer lender (onto done s) (length done)) pieces ≡ buffer lender (onto (done ++ joined pieces) s) (length (done ++ joined pieces))
 unfolding put_all joined
-put-pieces done s [] h = ap (λ t. buffer (onto t s) (length t)) (sym (append-nil done))
-put-pieces done s (piece ∷ pieces) h =
+put-pieces {lender} done s [] h = ap (λ t. buffer lender (onto t s) (length t)) (sym (append-nil done))
+put-pieces {lender} done s (piece ∷ pieces) h =
     let next = sym (append_assoc done piece (joined pieces)) in
     let fits : length (done ++ piece ++ joined pieces) ≤ length s = rw next at h in
     rw (next, put_next done piece s (omega (arith, length-append (done ++ piece) (joined pieces)))) (put-pieces (done ++ piece) s pieces fits)

@@ -1,5 +1,6 @@
 -- Text in lent bytes and in a line, pieces put behind it, and numbers as decimal text.
 use Rattle.std.specs.Prelude.{ℕ, zero, suc, ◌+◌, ◌/◌, ◌%◌, cond, List, [], ◌∷◌, ◌++◌, ltb, leb, length, take, drop}
+use Rattle.std.specs.Borrow.{GName}
 use Rattle.line.specs.declared.Line.{Line}
 
 -- how many bytes a line holds
@@ -19,19 +20,20 @@ unfoldable pub laid : List ℕ → List (List ℕ) → List ℕ
 laid text [] = text
 laid text (piece ∷ pieces) = laid (behind text piece) pieces
 
--- lent bytes, of which the first len are text so far
+-- lent bytes, of which the first len are text so far, and whose they are
 pub record Buffer : Type 0 where
+  pub lender : GName
   pub bytes : List ℕ
   pub len : ℕ
 
-abbrev pub buffer : List ℕ → ℕ → Buffer
-buffer bytes len = record { bytes = bytes; len = len }
+abbrev pub buffer : GName → List ℕ → ℕ → Buffer
+buffer lender bytes len = record { lender = lender; bytes = bytes; len = len }
 
--- a piece put behind the text, where it fits: the bytes before it and behind it stay
+-- a piece put behind the text, where it fits: the bytes before it and behind it stay, and they stay their lender's
 unfoldable pub put : Buffer → List ℕ → Buffer
 put b piece =
     cond (leb (b.len + length piece) (length b.bytes))
-    (buffer (take b.len b.bytes ++ (piece ++ drop (b.len + length piece) b.bytes)) (b.len + length piece)) b
+    (buffer b.lender (take b.len b.bytes ++ (piece ++ drop (b.len + length piece) b.bytes)) (b.len + length piece)) b
 
 -- pieces put one after the other
 unfoldable pub put_all : Buffer → List (List ℕ) → Buffer

@@ -9,25 +9,19 @@ pub const ROOM: usize = 256;
 // that those behind it are put.
 pub trait Text {
     ghost use Rattle.std.specs.Prelude.{◌≡◌};
-    ghost use Rattle.std.specs.Borrow.{GName};
     ghost use Rattle.line.specs.Text.{Buffer, put, decimal_of};
 
-    // The bytes, and how many of them are text.
+    // The bytes, how many of them are text, and whose bytes they are.
     ghost buffer: { Self → Buffer };
-
-    // Whose bytes they are.
-    ghost lender: { Self → GName };
 
     // A piece put behind the text; left out where it does not fit.
     fn text(&mut self, s: &[u8])
-        ensures put { buffer self.new ≡ put (buffer self.old) s.now }
-        ensures lender { lender self.new ≡ lender self.old };
+        ensures { buffer self.new ≡ put (buffer self.old) s.now };
 
     // A number in decimal, put behind the text. Its digits are made from the last one on. The place is counted by hand: an iterator
     // over the digits would need it as well, to hand on those from the first one on.
     fn number(&mut self, n: u64)
-        ensures put { buffer self.new ≡ put (buffer self.old) (decimal_of n) }
-        ensures lender { lender self.new ≡ lender self.old }
+        ensures { buffer self.new ≡ put (buffer self.old) (decimal_of n) }
     {
         let mut digits = [0u8; 20];
         let mut rest = n;
@@ -42,7 +36,8 @@ pub trait Text {
     }
 }
 
-// Lent bytes, of which the first `len` are text so far.
+// Lent bytes, of which the first `len` are text so far. There is no heap, and `Line`, of which any length is answered, puts its text by it: so
+// no invariant narrows the length.
 #[derive(Drop)]
 pub struct Lent<'a> {
     pub bytes: &'a mut [u8],
@@ -52,10 +47,9 @@ pub struct Lent<'a> {
 impl Text for Lent<'_> {
     ghost use Rattle.line.specs.Text.{buffer};
 
-    ghost buffer = { λ t. buffer t.bytes.now t.len };
+    ghost buffer = { λ t. buffer t.bytes.ghost_name t.bytes.now t.len };
 
-    ghost lender = { λ t. t.bytes.ghost_name };
-
+    #[tactic(auto, using(crate::proofs::Lines::put_out))]
     fn text(&mut self, s: &[u8]) {
         if self.len <= self.bytes.len() {
             if s.len() <= self.bytes.len() - self.len {
@@ -67,7 +61,9 @@ impl Text for Lent<'_> {
     }
 }
 
-// A line of text: the first `len` of its bytes, all of them where `len` is past their end. There is no heap, and so they are an array.
+// A line of text: the first `len` of its bytes, all of them where `len` is past their end. There is no heap, and so they are an array; any
+// length is answered, and so no invariant narrows it.
+// Two lines of one text may differ in the bytes behind it, so that a derived `==` would tell no equality of texts; hence no other derive.
 #[derive(Clone, Copy)]
 pub struct Line {
     pub bytes: [u8; ROOM],
@@ -99,10 +95,10 @@ impl Line {
 impl Text for Line {
     ghost use Rattle.line.specs.Text.{buffer};
 
-    ghost buffer = { λ t. buffer t.bytes t.len };
+    // Its bytes are its own, and no one lends them.
+    ghost buffer = { λ t. buffer 0 t.bytes t.len };
 
-    ghost lender = { λ t. 0 };
-
+    #[tactic(auto, using(crate::proofs::Lines::put_lender))]
     fn text(&mut self, s: &[u8]) {
         let mut lent = Lent {
             bytes: &mut self.bytes,

@@ -1,5 +1,5 @@
 -- Laws of the reach of a form: a refusal reaches nothing, and nor does a form with no seed key.
-use Rattle.lemmas.proofs.Basics.{Bool, true, false, cond, ◌≡◌, refl, sym}
+use Rattle.lemmas.proofs.Basics.{Bool, true, false, cond, ◌≡◌, refl}
 use Rattle.std.specs.Prelude.{Result, Ok, Err}
 use Rattle.refusal.specs.declared.Refusal.{Refusal}
 use Rattle.refusal.specs.declared.Refusal.TheVariants.{IndexAbove31}
@@ -9,7 +9,7 @@ use Rattle.gkid.specs.declared.Gkid.{Gkid}
 use Rattle.gkid.specs.Identifier.{index_above_31}
 use Rattle.keys.specs.declared.Form.{Form}
 use Rattle.keys.specs.declared.Form.TheVariants.{Keyless, Public}
-use Rattle.keys.specs.Forms.{keys_of, seed_checks}
+use Rattle.keys.specs.Forms.{keys_of}
 use Rattle.keys.specs.Published.{published_seed_checks}
 use Rattle.keys.proofs.FormLaws.{keyless_checks}
 use Rattle.keys.proofs.HouseRule.{forms_as_published}

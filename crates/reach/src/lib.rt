@@ -18,7 +18,9 @@ pub struct Reach {
     rows: [u32; 32],
 }
 
-// Whether `wanted` is of the L0 group of `at`.
+// Whether `wanted` is of the L0 group of `at`. Here and in the two below indices are compared as numbers: by what their types derive, which was
+// tried, a form's reach takes 385 instructions for 331, where the reference takes 279.
+#[tactic(auto, unfolding(crate::specs::Reached::of_group))]
 fn of_group(at: Gkid, wanted: Gkid) -> bool
     ensures { result ≡ of_group at wanted }
 {
@@ -26,6 +28,7 @@ fn of_group(at: Gkid, wanted: Gkid) -> bool
 }
 
 // The L1 key reaches all of rows 0 to L1 if L2 = 31, else rows 0 to L1-1: of the 32 rows, also where L1 is above 31.
+#[tactic(auto, unfolding(crate::specs::Reached::l1_reaches))]
 pub fn l1_reaches(at: Gkid, wanted: Gkid) -> bool
     ensures { result ≡ l1_reaches at wanted }
 {
@@ -39,6 +42,7 @@ pub fn l1_reaches(at: Gkid, wanted: Gkid) -> bool
 }
 
 // The L2 key reaches its own L1 row from L2 index 0 to its own: of the 32 bits, also where L2 is above 31.
+#[tactic(auto, unfolding(crate::specs::Reached::l2_reaches))]
 pub fn l2_reaches(at: Gkid, wanted: Gkid) -> bool
     ensures { result ≡ l2_reaches at wanted }
 {
@@ -59,6 +63,8 @@ fn row_to(index: u32) -> u32
     }
 }
 
+// Keys and identifier stay apart, here and where the whole is asked, and so do two identifiers above: as one value each would be put together
+// by every caller, and taken apart here.
 // Row `l1` of the map. Its first identifier tells whether the L1 key reaches the row whole, and the L2 key the row in part.
 fn row(keys: SeedKeys, at: Gkid, l1: u32) -> u32
     ensures { result ≡ row_of keys at l1 }
@@ -79,6 +85,7 @@ fn row(keys: SeedKeys, at: Gkid, l1: u32) -> u32
 }
 
 // The map of what keys reach from an identifier, whatever its indices, row by row: bits stand for the identifiers of its L0 group alone.
+#[tactic(auto, unfolding(crate::specs::Bits::table, crate::specs::Maps::map_of))]
 fn map(keys: SeedKeys, at: Gkid) -> [u32; 32]
     ensures { result ≡ map_of keys at }
 {
@@ -91,6 +98,7 @@ fn map(keys: SeedKeys, at: Gkid) -> [u32; 32]
 
 impl Reach {
     // What a seed envelope at an identifier with just these keys reaches: 5, then 11, where such an envelope would be refused.
+    #[tactic(auto, unfolding(crate::specs::Reaches::keys_reach, refusal::specs::Chain::unless_refused))]
     pub fn of(keys: SeedKeys, at: Gkid) -> Result<Reach, Refusal>
         ensures { result ≡ keys_reach keys at }
     {
@@ -119,6 +127,7 @@ impl Reach {
 }
 
 // The reach of a form at an identifier: that of a seed envelope with just those keys.
+#[tactic(auto, unfolding(crate::specs::Reaches::form_reach))]
 pub fn form_reach(form: Form, at: Gkid) -> Result<Reach, Refusal>
     ensures { result ≡ form_reach form at }
 {

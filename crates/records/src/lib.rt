@@ -10,10 +10,5 @@ pub const LIMIT: usize = 65535;
 pub fn grown(len: usize, more: usize) -> usize
     ensures { result ≡ min (len + more) 65536 }
 {
-    if more <= 65536 {
-        if len <= 65536 - more {
-            return len + more;
-        }
-    }
-    65536
+    len.saturating_add(more).min(65536)
 }

@@ -63,7 +63,8 @@ unfolding first_of
 first_refused [] after r p = refl
 first_refused ((applies ⇒ q) ∷ before) after r p = rw p.0 (first_refused before after r p.1)
 
--- The chain as code runs it, one `refuse_if` after another.
+-- The chain as code runs it, one `refuse_if` after another, is the chain: `run_first`, and `refuse_is` for a link of it. Cited by no proof, they
+-- stand, since the documents named them.
 unfoldable pub run : Outcome → List Check → Outcome
 run o [] = o
 run o ((applies ⇒ r) ∷ checks) = run (refuse_if o applies r) checks

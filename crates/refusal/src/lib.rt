@@ -64,6 +64,7 @@ pub enum Refusal {
 }
 
 impl Refusal {
+    #[tactic(auto, unfolding(crate::specs::Number::number_of))]
     pub fn number(self) -> u32
         ensures { result ≡ number_of self }
     {
@@ -72,6 +73,7 @@ impl Refusal {
 }
 
 // One check of a chain: its refusal where it fails.
+#[tactic(auto, unfolding(crate::specs::Chain::first_of))]
 pub fn refuse_if(fails: bool, refusal: Refusal) -> Result<(), Refusal>
     ensures { result ≡ first_of ((fails ⇒ refusal) ∷ []) }
 {

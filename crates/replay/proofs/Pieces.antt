@@ -1,5 +1,5 @@
 -- A chunk that is replayed in pieces, as many records at a time as the output holds, is replayed whole.
-use Rattle.lemmas.proofs.Basics.{ℕ, zero, suc, ◌+◌, ◌-◌, ◌*◌, ◌/◌, ◌≤◌, ◌<◌, arith, Bool, true, false, List, ◌++◌, ◌≡◌, refl, sym, ap, ◌∙◌, subst, min, length, take, drop, take-add, take-length, take_all, drop-drop, length-drop, le-leb}
+use Rattle.lemmas.proofs.Basics.{ℕ, zero, suc, ◌+◌, ◌-◌, ◌*◌, ◌/◌, ◌≤◌, ◌<◌, arith, Bool, true, false, List, ◌++◌, ◌≡◌, refl, sym, ap, ◌∙◌, subst, min, length, take, drop, take-add, take-length, take_all, drop-drop, length-drop}
 use Rattle.std.specs.Prelude.{Option}
 use Rattle.std.specs.Io.KnownBytes.{Appends}
 use Rattle.std.proofs.KnownBytes.{Appends-nil, Appends-trans}
@@ -9,15 +9,11 @@ use Rattle.wire.proofs.Writing.{length-onto, take-onto}
 use Rattle.report.specs.declared.State.{State}
 use Rattle.report.specs.declared.Stopped.TheVariants.{Records, Room}
 use Rattle.report.specs.declared.Progress.{Progress}
-use Rattle.report.specs.Records.{cut, records_of, has_record}
+use Rattle.report.specs.Records.{cut, records_of}
 use Rattle.report.specs.Lines.{lines_from}
 use Rattle.report.specs.Replaying.{after, Replayed, replay_of, progress_of}
 use Rattle.report.proofs.Chunks.{records_next, lines_append, after-append, after_none}
 use Rattle.report.proofs.Replays.{Because, faithful}
-
-has_whole : (ends : Bool) (n : ℕ) → 37 ≤ n → has_record ends n ≡ true
-unfolding has_record
-has_whole ends n h = rw (le-leb 37 n h) refl
 
 -- the records behind the first k whole ones
 records_behind : (ends : Bool) (k : ℕ) (s : List ℕ) → 37 * k ≤ length s → records_of ends (drop (37 * k) s) ≡ drop k (records_of ends s)
@@ -27,7 +23,7 @@ records_behind ends (suc k) s h =
     let rest : 37 * k ≤ length (drop 37 s) = rw length-drop (omega arith) in
     let sum : 37 + 37 * k ≡ 37 * suc k = omega arith in
     ap (λ n. records_of ends (drop n s)) (sym sum) ∙ ap (records_of ends) (sym (drop-drop (37 * k) 37 s)) ∙ records_behind ends k (drop 37 s) rest
-    ∙ ap (drop (suc k)) (sym (records_next ends s (has_whole ends (length s) whole)))
+    ∙ ap (drop (suc k)) (sym (records_next ends s (omega arith)))
 
 length_cut : (n : ℕ) (s : List ℕ) → length (cut n s) ≡ n
 unfolding cut

@@ -46,9 +46,6 @@ module _ (table : List ℕ) (trace left before now : Option (List ℕ)) (state :
   onward : (ys : List (List ℕ)) (st : State) → st ≡ after table state ys → st ≡ after table start (l.records ++ ys)
   onward ys st is = is ∙ ap (λ s. after table s ys) l.behind ∙ sym (after-append table start l.records ys)
 
-  pub only_lines : OnlyLines table before now
-  only_lines = (l.records, l.text)
-
   pub cut_lines : (next : Option (List ℕ)) (records : List (List ℕ)) → (n : ℕ) × Appends now next (lines_from table state.next (take n records)) → OnlyLines table before next
   cut_lines next records some = (l.records ++ take some.0 records, joined (take some.0 records) next some.1)
 

@@ -25,7 +25,7 @@ use wire::Span;
 const CHUNK: usize = 65527;
 
 // What the program says where it fails.
-#[derive(Clone, Copy)]
+#[derive(Clone, Copy, Debug, PartialEq, Eq)]
 enum Failure {
     Usage,
     Table,
@@ -47,10 +47,7 @@ impl fmt::Display for Failure {
 }
 
 fn main(rt: HostRuntime) -> ExitCode {
-    match run(&rt, &mut rt.stdin(), &mut rt.stdout()) {
-        Ok(()) => ExitCode::SUCCESS,
-        Err(failure) => complain(&rt, failure),
-    }
+    input::ended(&rt, run(&rt, &mut rt.stdin(), &mut rt.stdout()))
 }
 
 fn run<R: Env + Files>(rt: &R, from: &mut impl Read, to: &mut impl Write) -> Result<(), Failure> {
@@ -62,7 +59,7 @@ fn run<R: Env + Files>(rt: &R, from: &mut impl Read, to: &mut impl Write) -> Res
     replay_trace(from, to, wire::part(&table, Span { at: 0, len }))
 }
 
-// The one argument, at the start of the buffer, and how long it is.
+// The one argument, at the start of the buffer, and how long it is. One is there and a second is not: a match asks both, which `map_err` does not.
 fn only_argument(rt: &impl Env, path: &mut [u8]) -> Result<usize, Failure>
     ensures { IfOk result (λ n. n ≤ length path.new) }
 {
@@ -76,16 +73,9 @@ fn only_argument(rt: &impl Env, path: &mut [u8]) -> Result<usize, Failure>
 fn read_table<R: Files>(rt: &R, path: &[u8], table: &mut [u8]) -> Result<usize, Failure>
     ensures { IfOk result (λ n. n ≤ length table.new) }
 {
-    let Ok(name) = std::str::from_utf8(path) else {
-        return Err(Failure::Table);
-    };
-    let Ok(mut file) = File::open(rt, name) else {
-        return Err(Failure::Table);
-    };
-    match input::read_all(&mut file, table) {
-        Ok(len) => Ok(len),
-        Err(_) => Err(Failure::Table),
-    }
+    let name = std::str::from_utf8(path).map_err(|_| Failure::Table)?;
+    let mut file = File::open(rt, name).map_err(|_| Failure::Table)?;
+    input::read_all(&mut file, table).map_err(|_| Failure::Table)
 }
 
 // The whole trace, chunk by chunk: one that is not full is the last. A loop has to end, and nothing says that an input does: so it counts its
@@ -99,9 +89,7 @@ fn replay_trace<R: Read, W: Write>(from: &mut R, to: &mut W, table: &[u8]) -> Re
     let mut out = [0; 65536];
     let mut state = State::new();
     for _ in 0..u64::MAX {
-        let Ok(len) = input::read_all(from, &mut chunk) else {
-            return Err(Failure::Read);
-        };
+        let len = input::read_all(from, &mut chunk).map_err(|_| Failure::Read)?;
         let ends = len < CHUNK;
         let records = wire::part(&chunk, Span { at: 0, len });
         state = replay_chunk(to, &mut out, state, table, records, ends)?;
@@ -112,7 +100,7 @@ fn replay_trace<R: Read, W: Write>(from: &mut R, to: &mut W, table: &[u8]) -> Re
     Err(Failure::Full)
 }
 
-// A chunk: its lines, as many at a time as the output holds. The answer is the state behind it.
+// A chunk: its lines, as many at a time as the output holds. The answer is the state behind it. `chunk` and `ends` stay apart, as in `report::replay`.
 fn replay_chunk<W: Write>(
     to: &mut W,
     out: &mut [u8],
@@ -160,14 +148,5 @@ fn write<W: Write>(to: &mut W, bytes: &[u8]) -> Result<(), Failure>
     ensures written { OnOk result (Appends (W.contents to.old) (W.contents to.new) bytes.now) }
     ensures failed { OnErr result (result ≡ Err Failure.Write) }
 {
-    match to.write_all(bytes) {
-        Ok(()) => Ok(()),
-        Err(_) => Err(Failure::Write),
-    }
-}
-
-// Where standard error fails too, there is no one to tell.
-fn complain(rt: &impl Eprint, failure: Failure) -> ExitCode {
-    let _ = rt.eprintln(failure);
-    ExitCode::FAILURE
+    to.write_all(bytes).map_err(|_| Failure::Write)
 }

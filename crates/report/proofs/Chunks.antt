@@ -1,61 +1,48 @@
 -- Chunks are invisible: a trace replayed in pieces of whole records gives the text, the state and the total of the whole.
-use Rattle.lemmas.proofs.Basics.{ℕ, zero, suc, ◌+◌, ◌-◌, ◌*◌, ◌/◌, ◌≤◌, ◌<◌, arith, Bool, true, false, cond, false≢true, List, [], ◌∷◌, ◌++◌, map, append_assoc, ⊎_elim, ◌≡◌, refl, sym, ap, ap₂, ◌∙◌, ltb, leb, length, take, drop, length-append, length-drop, take-append-le, drop-append-le, le-leb, leb-true, leb-false, ltb-true, ltb-false}
-use Rattle.lemmas.proofs.Cases.{or-false, or-true}
+use Rattle.lemmas.proofs.Basics.{ℕ, zero, suc, ◌+◌, ◌-◌, ◌*◌, ◌/◌, ◌%◌, ◌≤◌, ◌<◌, arith, Bool, true, false, cond, List, [], ◌∷◌, ◌++◌, map, append-nil, append_assoc, ◌≡◌, refl, sym, ap, ap₂, ◌∙◌, length, take, drop, length-append, length-drop, take-append-drop, length-take-le, take-append-le, drop-append-le}
 use Rattle.tally.specs.Totals.{tally_of, clocks_in, earlier_in}
 use Rattle.tally.specs.Merging.{merge}
 use Rattle.tally.proofs.Laws.{all_counted, tally_append, merge-assoc, merge_none}
 use Rattle.report.specs.declared.State.{State}
-use Rattle.report.specs.Records.{cut, records_of, answer_to, has_record, counted_of, total_of}
+use Rattle.report.specs.Records.{cut, records_of, recorded, answer_to, counted_of, total_of}
 use Rattle.report.specs.Lines.{line_of, lines_from, total_line}
 use Rattle.report.specs.Replaying.{start, after, report_from, report_of}
 
--- how many bytes there are where there is a record, and where there is none
-has_some : (n : ℕ) → has_record true n ≡ true → 1 ≤ n
-unfolding has_record
-has_some n e = ⊎_elim (λ q. omega (arith, leb-true 37 n q)) (λ q. ltb-true 0 n q) (or-true (leb 37 n) (ltb 0 n) e)
-
-has_whole : (n : ℕ) → has_record false n ≡ true → 37 ≤ n
-unfolding has_record
-has_whole n e = ⊎_elim (λ q. leb-true 37 n q) (λ q. absurd (false≢true q)) (or-true (leb 37 n) false e)
-
-has_none : (ends : Bool) (n : ℕ) → has_record ends n ≡ false → n + cond ends 36 0 < 37
-unfolding has_record
-has_none true n e = let none = ltb-false 0 n (or-false (leb 37 n) (ltb 0 n) e).1 in omega arith
-has_none false n e = let none = leb-false 37 n (or-false (leb 37 n) false e).0 in omega arith
-
-pub has_any : (ends : Bool) (n : ℕ) → has_record ends n ≡ true → 1 ≤ n
-has_any true n e = has_some n e
-has_any false n e = omega (arith, has_whole n e)
-
-one_more : (ends : Bool) (n : ℕ) → has_record ends n ≡ true → (n + cond ends 36 0) / 37 ≡ suc ((n - 37 + cond ends 36 0) / 37)
-one_more true n has = let some = has_some n has in omega arith
-one_more false n has = let whole = has_whole n has in omega arith
+one_more : (ends : Bool) (n : ℕ) → 37 ≤ n + cond ends 36 0 → (n + cond ends 36 0) / 37 ≡ suc ((n - 37 + cond ends 36 0) / 37)
+one_more true n has = omega arith
+one_more false n has = omega arith
 
 -- Where bytes have a record, it is their first 37, or what there is of them, and the others are behind; where they have none, there is none.
-pub records_next : (ends : Bool) (s : List ℕ) → has_record ends (length s) ≡ true → records_of ends s ≡ take 37 s ∷ records_of ends (drop 37 s)
+pub records_next : (ends : Bool) (s : List ℕ) → 37 ≤ length s + cond ends 36 0 → records_of ends s ≡ take 37 s ∷ records_of ends (drop 37 s)
 unfolding records_of cut
 records_next ends s has = ap (λ n. cut n s) (one_more ends (length s) has ∙ ap (λ n. suc ((n + cond ends 36 0) / 37)) (sym (length-drop 37 s)))
 
-pub records-none : (ends : Bool) (s : List ℕ) → has_record ends (length s) ≡ false → records_of ends s ≡ []
+pub records-none : (ends : Bool) (s : List ℕ) → length s + cond ends 36 0 < 37 → records_of ends s ≡ []
 unfolding records_of cut
-records-none ends s has = let small = has_none ends (length s) has in let none : (length s + cond ends 36 0) / 37 ≡ 0 = omega arith in ap (λ n. cut n s) none
+records-none ends s small = let none : (length s + cond ends 36 0) / 37 ≡ 0 = omega arith in ap (λ n. cut n s) none
 
 -- The records of whole records and what follows them.
 pub records-append : (ends : Bool) (m : ℕ) (a b : List ℕ) → length a ≡ 37 * m → records_of ends (a ++ b) ≡ records_of false a ++ records_of ends b
-unfolding has_record
-records-append ends zero [] b size = ap (λ t. t ++ records_of ends b) (sym (records-none false [] refl))
+records-append ends zero [] b size = ap (λ t. t ++ records_of ends b) (sym (records-none false [] (omega arith)))
 records-append ends zero (x ∷ a) b size = absurd (omega arith)
 records-append ends (suc m) a b size =
     let whole : 37 ≤ length a = omega arith in
-    let longer : 37 ≤ length (a ++ b) = rw length-append (omega arith) in
     let next : length (drop 37 a) ≡ 37 * m = length-drop 37 a ∙ omega arith in
-    records_next ends (a ++ b) (has_record_lem ends _ longer)
+    records_next ends (a ++ b) (omega (arith, length-append a b))
     ∙ ap₂ (λ s t. s ∷ records_of ends t) (take-append-le 37 a b whole) (drop-append-le 37 a b whole)
     ∙ ap (λ t. take 37 a ∷ t) (records-append ends m (drop 37 a) b next)
-    ∙ ap (λ t. t ++ records_of ends b) (sym (records_next false a (has_record_lem false _ whole)))
-  where
-    has_record_lem : (ends : Bool) (n : ℕ) → 37 ≤ n → has_record ends n ≡ true
-    has_record_lem ends n h = rw (le-leb 37 n h)
+    ∙ ap (λ t. t ++ records_of ends b) (sym (records_next false a (omega arith)))
+
+-- A chunk's records are those of a trace that is the bytes which they have.
+pub recorded_same : (ends : Bool) (s : List ℕ) → records_of ends s ≡ records_of true (recorded ends s)
+unfolding recorded
+recorded_same true s = refl
+recorded_same false s =
+    let n = length s - length s % 37 in
+    let size : length (take n s) ≡ 37 * (length s / 37) = length-take-le n s (omega arith) ∙ omega arith in
+    ap (records_of false) (sym (take-append-drop n s)) ∙ records-append false (length s / 37) (take n s) (drop n s) size
+    ∙ ap (λ t. records_of false (take n s) ++ t) (records-none false (drop n s) (omega (arith, length-drop n s)) ∙ sym (records-none true [] (omega arith)))
+    ∙ sym (records-append true (length s / 37) (take n s) [] size) ∙ ap (records_of true) (append-nil (take n s))
 
 -- Lines, totals and states of records and of those that follow them.
 pub lines_append : (table : List ℕ) (n : ℕ) (xs ys : List (List ℕ)) → lines_from table n (xs ++ ys) ≡ lines_from table n xs ++ lines_from table (n + length xs) ys

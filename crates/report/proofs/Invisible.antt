@@ -1,9 +1,9 @@
 -- Chunks are invisible in what `replay` answers: wherever a trace is cut into chunks, and wherever a replay stops, the text that it put and the
 -- report of what is left, from the state that it answers, are the report of the whole.
-use Rattle.lemmas.proofs.Basics.{ℕ, zero, suc, ◌+◌, ◌*◌, ◌/◌, ◌≤◌, ◌<◌, arith, Bool, true, false, cond, List, ◌∷◌, ◌++◌, ◌≡◌, refl, sym, ap, ap₂, ◌∙◌, length, take, drop, take-length, take-append-le, drop-append-le, drop-drop, length-append, length-drop, le-leb}
+use Rattle.lemmas.proofs.Basics.{ℕ, zero, suc, ◌+◌, ◌*◌, ◌/◌, ◌≤◌, ◌<◌, arith, Bool, true, false, cond, List, ◌∷◌, ◌++◌, ◌≡◌, refl, sym, ap, ap₂, ◌∙◌, length, take, drop, take-length, take-append-le, drop-append-le, drop-drop, length-append, length-drop}
 use Rattle.report.specs.declared.State.{State}
 use Rattle.report.specs.declared.Stopped.TheVariants.{Records}
-use Rattle.report.specs.Records.{cut, records_of, has_record}
+use Rattle.report.specs.Records.{cut, records_of}
 use Rattle.report.specs.Lines.{lines_from, total_line}
 use Rattle.report.specs.Replaying.{after, report_from, replay_of}
 use Rattle.report.proofs.Chunks.{records_next, report_split}
@@ -40,13 +40,13 @@ first_used ends s k h = cut-take ((length s + cond ends 36 0) / 37) k s h
 
 -- The records of a trace are its first whole ones and those of what is behind them.
 records_from : (k : ℕ) (s : List ℕ) → 37 * k ≤ length s → records_of true s ≡ cut k s ++ records_of true (drop (37 * k) s)
-unfolding cut has_record
+unfolding cut
 records_from zero s h = refl
 records_from (suc k) s h =
     let whole : 37 ≤ length s = omega arith in
     let rest : 37 * k ≤ length (drop 37 s) = rw length-drop (omega arith) in
     let sum : 37 + 37 * k ≡ 37 * suc k = omega arith in
-    records_next true s (rw (le-leb 37 (length s) whole))
+    records_next true s (omega arith)
     ∙ ap (λ t. take 37 s ∷ t) (records_from k (drop 37 s) rest)
     ∙ ap (λ t. take 37 s ∷ (cut k (drop 37 s) ++ records_of true t)) (drop-drop (37 * k) 37 s ∙ ap (λ n. drop n s) sum)
 

@@ -1,12 +1,12 @@
 -- A line fits in its room, and the total's line in a line.
-use Rattle.lemmas.proofs.Basics.{ℕ, ◌≤◌, arith, List, [], ◌≡◌, refl, ap, ◌∙◌, length, take}
+use Rattle.lemmas.proofs.Basics.{ℕ, ◌≤◌, arith, [], ◌≡◌, refl, ap, ◌∙◌, length}
 use Rattle.std.specs.Prelude.{Result, Ok, Err, Option, Some, None}
 use Rattle.refusal.specs.declared.Refusal.{Refusal}
 use Rattle.refusal.specs.Number.{number_of}
 use Rattle.wire.proofs.Writing.{length-joined}
 use Rattle.getkey.specs.declared.Granted.{Granted}
 use Rattle.tally.specs.declared.Tally.{Tally}
-use Rattle.line.specs.Text.{room, laid, Buffer, buffer, put_all}
+use Rattle.line.specs.Text.{room, laid, Buffer, put_all}
 use Rattle.line.proofs.Decimals.{length_decimal}
 use Rattle.line.proofs.Lines.{text_in, put-laid, fits-joined}
 use Rattle.words.specs.Words.{identifier_words, refused_words}
@@ -38,6 +38,5 @@ unfolding total_line
 total-laid t = fits-joined [] (total_words t) (omega (arith, length-total t))
 
 -- They are the text of a line in which they were put behind no text.
-pub total-put : (t : Tally) (bytes : List ℕ) (len : ℕ) {b : Buffer} → length bytes ≡ room → take len bytes ≡ [] → b ≡ put_all (buffer bytes len) (total_words t)
-    → text_in b ≡ total_line t
-total-put t bytes len long empty put = ap text_in put ∙ put-laid (total_words t) bytes len long ∙ rw empty (total-laid t)
+pub total-put : (t : Tally) (b : Buffer) {now : Buffer} → length b.bytes ≡ room → text_in b ≡ [] → now ≡ put_all b (total_words t) → text_in now ≡ total_line t
+total-put t b long empty put = ap text_in put ∙ put-laid b (total_words t) long ∙ rw empty (total-laid t)

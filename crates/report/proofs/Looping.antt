@@ -1,23 +1,25 @@
 -- The loop of a replay: what is done so far, and that what is left gives the whole.
-use Rattle.lemmas.proofs.Basics.{ℕ, ◌+◌, ◌-◌, ◌*◌, ◌≤◌, ◌<◌, min, arith, sub-zero, append-nil, append_assoc, Bool, true, false, cond, List, [], ◌∷◌, ◌++◌, ◌≡◌, refl, sym, ap, ap₂, ◌∙◌, leb, length, take, drop, take_all, length-append, length-drop, drop-drop, drop_of_length-le, lt-ltb, le-ltb, leb-true, leb-false}
-use Rattle.std.specs.Prelude.{Result, Option, Some, None}
+use Rattle.lemmas.proofs.Basics.{ℕ, ◌+◌, ◌-◌, ◌*◌, ◌%◌, ◌≤◌, ◌<◌, min, arith, sub-zero, Bool, true, false, cond, List, [], ◌∷◌, ◌++◌, append-nil, append_assoc, ◌≡◌, refl, sym, ap, ap₂, ◌∙◌, length, take, drop, length-append, drop_of_length-le, length-take-le, take_at, take_all, drop_at, lt-ltb, le-ltb}
+use Rattle.std.specs.Borrow.{Bor, GName}
+use Rattle.std.specs.Prelude.{Result, Some, None}
+use Rattle.std.specs.Slice.Iter.{chunks_rest, chunks_size, chunks_steps}
+use Rattle.std.specs.declared.slice.Chunks.{Chunks}
 use Rattle.refusal.specs.declared.Refusal.{Refusal}
 use Rattle.getkey.specs.declared.Granted.{Granted}
 use Rattle.lemmas.proofs.Cases.{by_cases}
 use Rattle.wire.specs.Parts.{onto}
-use Rattle.wire.proofs.Parts.{rest_whole}
 use Rattle.wire.proofs.Writing.{onto-none, length-onto}
-use Rattle.line.specs.Text.{buffer, put_all}
+use Rattle.line.specs.Text.{Buffer, buffer, put_all}
 use Rattle.line.proofs.Lines.{put-pieces}
 use Rattle.report.specs.declared.State.{State}
 use Rattle.report.specs.declared.Progress.{Progress}
 use Rattle.report.specs.declared.Stopped.{Stopped}
 use Rattle.report.specs.declared.Stopped.TheVariants.{Records, Room, Full}
-use Rattle.report.specs.Records.{records_of, has_record, answer_to}
+use Rattle.report.specs.Records.{records_of, recorded, answer_to}
 use Rattle.report.specs.Lines.{line_words, line_of}
 use Rattle.report.specs.Replaying.{stepped, after, counts, step_of, line_room, Replayed, halt, behind, replay_of, progress_of}
 use Rattle.report.proofs.Lines.{length_line}
-use Rattle.report.proofs.Chunks.{records_next, records-none}
+use Rattle.report.proofs.Chunks.{records_next, records-none, recorded_same}
 
 -- What a step says of the record.
 pub record Took (table : List ℕ) (st : State) (s : List ℕ) (n : ℕ) (a : Result Granted Refusal) (next : State) : Type 0 where
@@ -43,38 +45,46 @@ step_full table st s e =
     (λ q w. refl)
     e
 
--- The first record, or what there is of it, and what is left behind it.
-pub first_cut : (left : List ℕ) (size : ℕ) → size ≡ min 37 (length left) → (take size left ≡ take 37 left) × (take (length left - size) (drop size left) ≡ drop 37 left)
-first_cut left size is =
-    by_cases (λ _. (take size left ≡ take 37 left) × (take (length left - size) (drop size left) ≡ drop 37 left)) (leb 37 (length left))
-    (λ q. let whole : size ≡ 37 = omega (arith, leb-true 37 (length left) q) in rw whole (refl, rest_whole left 37))
-    (λ q. let short = leb-false 37 (length left) q in
-    let whole : length left ≤ size = omega arith in
-    (take_all size left whole ∙ sym (take_all 37 left (omega arith)), rest_whole left size ∙ drop_of_length-le left {i = size} whole ∙ sym (drop_of_length-le left {i = 37} (omega arith))))
+-- The first 37 bytes, or what there is of them, and what is left behind them.
+parts : (s rest : List ℕ) → length s ≡ min 37 (length (s ++ rest)) → (take 37 (s ++ rest) ≡ s) × (drop 37 (s ++ rest) ≡ rest)
+parts s [] size =
+    let short : length s ≤ 37 = omega (arith, size) in
+    rw append-nil (take_all 37 s (omega arith), drop_of_length-le s {i = 37} (omega arith))
+parts s (x ∷ rest) size = let whole : length s ≡ 37 = omega (arith, length-append s (x ∷ rest)) in (take_at s _ 37 whole, drop_at s _ 37 whole)
 
--- the chunk, the output as it was lent and the state at the start; the output, what is left of the chunk, the state and the text's length now
-pub record Replaying (table chunk lent : List ℕ) (ends : Bool) (first : State) (out left : List ℕ) (st : State) (written : ℕ) : Type 0 where
+-- the table and the chunk, the output as it was lent and the state at the start; the output, the records that are left and the progress now
+pub record Replaying (table chunk : List ℕ) (lender : GName) (lent : List ℕ) (ends : Bool) (first : State) (out : Buffer) (left : Chunks ℕ) (p : Progress) : Type 0 where
   pub passed : ℕ
   pub done : List ℕ
-  pub rest : left ≡ drop (37 * passed) chunk
-  pub size : written ≡ length done
-  pub within : written ≤ length lent
-  pub output : out ≡ onto done lent
-  pub whole : replay_of table first (records_of ends chunk) (length lent) ≡ behind passed done (replay_of table st (records_of ends left) (length lent - written))
+  pub size : chunks_size left ≡ 37
+  pub rest : length (chunks_rest left) ≡ length (recorded ends chunk) - 37 * passed
+  pub few : 37 * passed < length (recorded ends chunk) + 37
+  pub stopped : p.stopped ≡ Records
+  pub used : p.used ≡ length (recorded ends chunk) - length (chunks_rest left)
+  pub written : p.written ≡ length done
+  pub within : length done ≤ length lent
+  pub output : out ≡ buffer lender (onto done lent) (length done)
+  pub whole : replay_of table first (records_of ends chunk) (length lent) ≡ behind passed done (replay_of table p.state (records_of true (chunks_rest left)) (length lent - length done))
 
-pub replaying_start : (table chunk lent : List ℕ) (ends : Bool) (st : State) → Replaying table chunk lent ends st lent chunk st 0
-replaying_start table chunk lent ends st =
+pub replaying_start : (table chunk : List ℕ) (lender : GName) (lent : List ℕ) (ends : Bool) (st : State) (left : Chunks ℕ) → chunks_size left ≡ 37 → chunks_rest left ≡ recorded ends chunk
+    → Replaying table chunk lender lent ends st (buffer lender lent 0) left (record { stopped = Records; used = 0; written = 0; state = st })
+replaying_start table chunk lender lent ends st left size all =
     let none : (n : ℕ) → n ≡ 0 + n = λ n. omega arith in
     let r = replay_of table st (records_of ends chunk) (length lent) in
+    let same = ap length all in
     record {
       passed = 0;
       done = [];
-      rest = refl;
-      size = refl;
+      size = size;
+      rest = omega (arith, same);
+      few = omega arith;
+      stopped = refl;
+      used = omega (arith, same);
+      written = refl;
       within = omega arith;
-      output = sym (onto-none lent);
+      output = ap (λ s. buffer lender s 0) (sym (onto-none lent));
       whole = (λ i. record { stopped = r.stopped; records = none r.records i; text = r.text; state = r.state })
-          ∙ ap (λ n. behind 0 [] (replay_of table st (records_of ends chunk) n)) (sym (sub-zero (length lent)));
+          ∙ ap₂ (λ rs n. behind 0 [] (replay_of table st rs n)) (recorded_same ends chunk ∙ ap (records_of true) (sym all)) (sym (sub-zero (length lent)));
     }
 
 -- A record whose line is sure to fit, and which counts, is the first of what is replayed.
@@ -90,74 +100,97 @@ behind-again p d line r =
     let sum : p + (1 + r.records) ≡ p + 1 + r.records = omega arith in
     λ i. record { stopped = r.stopped; records = sum i; text = sym (append_assoc d line r.text) i; state = r.state }
 
-module _ {table chunk lent : List ℕ} {ends : Bool} {first : State} {out left : List ℕ} {st : State} {written : ℕ} (r : Replaying table chunk lent ends first out left st written) where
-  pub length_out : length out ≡ length lent
-  length_out = ap length r.output ∙ length-onto r.done lent
+module _ {table chunk : List ℕ} {lender : GName} {lent : List ℕ} {ends : Bool} {first : State} {out : Buffer} {left : Chunks ℕ} {p : Progress} (r : Replaying table chunk lender lent ends first out left p) where
+  room_left : length out.bytes - out.len ≡ length lent - length r.done
+  room_left = omega (arith, ap (λ b. b.len) r.output, ap (λ b. length b.bytes) r.output, length-onto r.done lent)
 
-  pub left_within : length left ≤ length chunk
-  left_within = omega (arith, ap length r.rest, length-drop (37 * r.passed) chunk)
+  pub text_inside : out.len ≤ length out.bytes
+  text_inside = omega (arith, ap (λ b. b.len) r.output, ap (λ b. length b.bytes) r.output, length-onto r.done lent, r.within)
+
+  -- A record that comes is the first of those that are left.
+  records_left : (s : Bor (List ℕ)) (rest : Chunks ℕ) → chunks_steps left (Some s) rest → records_of true (chunks_rest left) ≡ s.now ∷ records_of true (chunks_rest rest)
+  records_left s rest steps =
+      let cut = steps.1 in
+      let first = parts s.now (chunks_rest rest) (cut.1 ∙ ap₂ (λ n t. min n (length t)) r.size cut.0) in
+      records_next true (chunks_rest left) (omega (arith, cut.2)) ∙ ap (λ t. take 37 t ∷ records_of true (drop 37 t)) cut.0
+      ∙ ap₂ (λ a b. a ∷ records_of true b) first.0 first.1
 
   -- One record more.
-  pub replaying_again : {n : ℕ} {a : Result Granted Refusal} {next : State} {now : List ℕ} {end : ℕ} → has_record ends (length left) ≡ true → line_room ≤ length lent - written
-      → step_of table st (take 37 left) ≡ Some (stepped n a next) → buffer now end ≡ put_all (buffer out written) (line_words n a)
-      → Replaying table chunk lent ends first now (drop 37 left) next end
+  pub replaying_again : (s : Bor (List ℕ)) (rest : Chunks ℕ) {n : ℕ} {a : Result Granted Refusal} {next : State} {now : Buffer} → chunks_steps left (Some s) rest → line_room ≤ length out.bytes - out.len
+      → step_of table p.state s.now ≡ Some (stepped n a next) → now ≡ put_all out (line_words n a)
+      → Replaying table chunk lender lent ends first now rest (record { stopped = Records; used = p.used + length s.now; written = now.len; state = next })
   unfolding line_of
-  replaying_again {n} {a} {next} {now} {end} has enough stepped put =
-      let t = step_took table st (take 37 left) stepped in
+  replaying_again s rest {n} {a} {next} {now} steps enough is put =
+      let t = step_took table p.state s.now is in
       let line = line_of n a in
+      let cut = steps.1 in
       let sum = length-append r.done line in
-      let fits : length (r.done ++ line) ≤ length lent = omega (arith, length_line n a, r.size, r.within) in
-      let placed : buffer now end ≡ buffer (onto (r.done ++ line) lent) (length (r.done ++ line)) =
-      put ∙ ap₂ (λ o w. put_all (buffer o w) (line_words n a)) r.output r.size ∙ put-pieces r.done lent (line_words n a) fits
+      let fits : length (r.done ++ line) ≤ length lent = omega (arith, length_line n a, room_left, r.within) in
+      let placed : now ≡ buffer lender (onto (r.done ++ line) lent) (length (r.done ++ line)) =
+      put ∙ ap (λ b. put_all b (line_words n a)) r.output ∙ put-pieces r.done lent (line_words n a) fits
       in
-      let length-now : end ≡ length (r.done ++ line) = ap (λ b. b.len) placed in
-      let left-room : length lent - written - length line ≡ length lent - end = omega (arith, r.size) in
-      let more : 37 * r.passed + 37 ≡ 37 * (r.passed + 1) = omega arith in
-      let one : replay_of table st (records_of ends left) (length lent - written) ≡ behind 1 line (replay_of table next (records_of ends (drop 37 left)) (length lent - end)) =
-      ap (λ rs. replay_of table st rs (length lent - written)) (records_next ends left has)
-      ∙ replay_one table st (take 37 left) (records_of ends (drop 37 left)) (length lent - written) enough t
-      ∙ ap (λ k. behind 1 line (replay_of table next (records_of ends (drop 37 left)) k)) left-room
+      let left-room : length lent - length r.done - length line ≡ length lent - length (r.done ++ line) = omega arith in
+      let taken : length s.now ≡ min 37 (length (chunks_rest left)) = cut.1 ∙ ap (λ n. min n (length (chunks_rest left))) r.size in
+      let cut-size : length (chunks_rest left) ≡ length s.now + length (chunks_rest rest) = ap length cut.0 ∙ length-append s.now (chunks_rest rest) in
+      let one =
+      ap (λ rs. replay_of table p.state rs (length lent - length r.done)) (records_left s rest steps)
+      ∙ replay_one table p.state s.now (records_of true (chunks_rest rest)) (length lent - length r.done) (omega (arith, room_left)) t
+      ∙ ap (λ k. behind 1 line (replay_of table next (records_of true (chunks_rest rest)) k)) left-room
       in
       record {
         passed = r.passed + 1;
         done = r.done ++ line;
-        rest = ap (drop 37) r.rest ∙ drop-drop 37 (37 * r.passed) chunk ∙ ap (λ k. drop k chunk) more;
-        size = length-now;
-        within = omega arith;
-        output = ap (λ b. b.bytes) placed;
+        size = steps.0 ∙ r.size;
+        rest = omega (arith, r.rest, taken);
+        few = omega (arith, r.rest, cut.2);
+        stopped = refl;
+        used = omega (arith, r.used, r.rest);
+        written = ap (λ b. b.len) placed;
+        within = fits;
+        output = placed;
         whole = r.whole ∙ ap (behind r.passed r.done) one ∙ behind-again r.passed r.done line _;
       }
 
-  -- No more: what was replayed is the whole.
-  pub replaying_stop : (why : Stopped) → replay_of table st (records_of ends left) (length lent - written) ≡ halt why st
-      → record {
-        answer : (let p : Progress = record { stopped = why; used = length chunk - length left; written = written; state = st } in
-            p ≡ progress_of (length chunk) (replay_of table first (records_of ends chunk) (length lent)));
-        output : out ≡ onto (replay_of table first (records_of ends chunk) (length lent)).text lent;
-      }
+  used_is : (ends : Bool) (n : ℕ) → 37 * n < length (recorded ends chunk) + 37 → min (37 * n) (length (recorded ends chunk)) ≡ min (37 * n) (length chunk)
+  unfolding recorded
+  used_is true n few = refl
+  used_is false n few = let size = length-take-le (length chunk - length chunk % 37) chunk (omega arith) in omega arith
+
+  -- what is replayed in all, and what a replay that stops says
+  abbrev pub whole : Replayed
+  whole = replay_of table first (records_of ends chunk) (length lent)
+
+  abbrev pub Told : Stopped → Type 0
+  Told why =
+      let now : Progress = record { stopped = why; used = p.used; written = p.written; state = p.state } in
+      record { answer : now ≡ progress_of (length chunk) whole; output : out ≡ buffer lender (onto whole.text lent) (length whole.text) }
+
+  told : (why : Stopped) → replay_of table p.state (records_of true (chunks_rest left)) (length lent - length r.done) ≡ halt why p.state → Told why
   unfolding progress_of
-  replaying_stop why halted =
-      let whole = r.whole ∙ ap (behind r.passed r.done) halted in
-      let short : length left ≡ length chunk - 37 * r.passed = ap length r.rest ∙ length-drop (37 * r.passed) chunk in
-      let used : length chunk - length left ≡ min (37 * (r.passed + 0)) (length chunk) = omega arith in
+  told why halted =
+      let all = r.whole ∙ ap (behind r.passed r.done) halted in
+      let n = r.passed + 0 in
+      let used : p.used ≡ min (37 * n) (length chunk) = r.used ∙ omega (arith, r.rest) ∙ used_is ends n (omega (arith, r.few)) in
       let text : r.done ≡ r.done ++ [] = sym (append-nil r.done) in
       record {
-        answer = (λ i. record { stopped = why; used = used i; written = (r.size ∙ ap length text) i; state = st }) ∙ ap (progress_of (length chunk)) (sym whole);
-        output = r.output ∙ ap (λ t. onto t lent) text ∙ ap (λ w. onto w.text lent) (sym whole);
+        answer = (λ i. record { stopped = why; used = used i; written = (r.written ∙ ap length text) i; state = p.state }) ∙ ap (progress_of (length chunk)) (sym all);
+        output = r.output ∙ ap (λ t. buffer lender (onto t lent) (length t)) (text ∙ ap (λ w. w.text) (sym all));
       }
 
   -- Why it stops: no record; no room that is sure to do; a count that does not fit.
-  pub no_record : has_record ends (length left) ≡ false → replay_of table st (records_of ends left) (length lent - written) ≡ halt Records st
+  pub no_record : (rest : Chunks ℕ) → chunks_steps left None rest → Told p.stopped
   unfolding replay_of
-  no_record none = ap (λ rs. replay_of table st rs (length lent - written)) (records-none ends left none)
+  no_record rest steps = rw r.stopped (told Records (ap (λ rs. replay_of table p.state rs (length lent - length r.done)) (records-none true (chunks_rest left) (omega (arith, steps.1.0)))))
 
-  pub no_room : has_record ends (length left) ≡ true → length lent - written < line_room → replay_of table st (records_of ends left) (length lent - written) ≡ halt Room st
+  pub no_room : (s : Bor (List ℕ)) (rest : Chunks ℕ) → chunks_steps left (Some s) rest → length out.bytes - out.len < line_room → Told Room
   unfolding replay_of
-  no_room has small = ap (λ rs. replay_of table st rs (length lent - written)) (records_next ends left has) ∙ rw (lt-ltb (length lent - written) line_room small)
+  no_room s rest steps small =
+      told Room
+      (ap (λ rs. replay_of table p.state rs (length lent - length r.done)) (records_left s rest steps) ∙ rw (lt-ltb (length lent - length r.done) line_room (omega (arith, room_left))))
 
-  pub no_count : has_record ends (length left) ≡ true → line_room ≤ length lent - written → step_of table st (take 37 left) ≡ None
-      → replay_of table st (records_of ends left) (length lent - written) ≡ halt Full st
+  pub no_count : (s : Bor (List ℕ)) (rest : Chunks ℕ) → chunks_steps left (Some s) rest → line_room ≤ length out.bytes - out.len → step_of table p.state s.now ≡ None → Told Full
   unfolding replay_of
-  no_count has enough full =
-      ap (λ rs. replay_of table st rs (length lent - written)) (records_next ends left has)
-      ∙ rw (le-ltb (length lent - written) line_room enough, step_full table st (take 37 left) full)
+  no_count s rest steps enough full =
+      told Full
+      (ap (λ rs. replay_of table p.state rs (length lent - length r.done)) (records_left s rest steps)
+      ∙ rw (le-ltb (length lent - length r.done) line_room (omega (arith, room_left)), step_full table p.state s.now full))

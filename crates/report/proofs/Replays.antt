@@ -5,10 +5,9 @@ use Rattle.lemmas.proofs.Cases.{by_cases}
 use Rattle.report.specs.declared.State.{State}
 use Rattle.report.specs.declared.Stopped.{Stopped}
 use Rattle.report.specs.declared.Stopped.TheVariants.{Records, Room, Full}
-use Rattle.report.specs.declared.Progress.{Progress}
 use Rattle.report.specs.Records.{answer_to}
 use Rattle.report.specs.Lines.{line_of, lines_from}
-use Rattle.report.specs.Replaying.{after, counts, line_room, Replayed, halt, behind, replay_of, progress_of}
+use Rattle.report.specs.Replaying.{after, counts, line_room, Replayed, halt, behind, replay_of}
 use Rattle.report.proofs.Lines.{length_line}
 use Rattle.report.proofs.Chunks.{after-append, after_none}
 
@@ -65,8 +64,3 @@ faithful table st (s ∷ records) room =
           state = ih.state ∙ sym (after-append table st (s ∷ []) (take rest.records records)) ∙ ap (λ n. after table st (take n (s ∷ records))) (sym next);
           reason = because_next table s records room line rest rest.stopped fits ih.reason;
         }
-
--- No more of a chunk is used than it has.
-pub used_within : (len : ℕ) (r : Replayed) {p : Progress} → p ≡ progress_of len r → p.used ≤ len
-unfolding progress_of
-used_within len r told = omega (arith, ap (λ p. p.used) told)

@@ -1,5 +1,5 @@
 -- Document 02, No. 7: the records of a trace, what each is answered, and what is counted of it.
-use Rattle.std.specs.Prelude.{ℕ, zero, suc, ◌+◌, ◌/◌, Bool, cond, ◌&&◌, ◌||◌, List, [], ◌∷◌, map, ltb, leb, eqb, length, take, drop, Result, Ok, Err, Option, Some, None}
+use Rattle.std.specs.Prelude.{ℕ, zero, suc, ◌+◌, ◌-◌, ◌/◌, ◌%◌, Bool, true, false, cond, List, [], ◌∷◌, map, eqb, length, take, drop, Result, Ok, Err, Option, Some, None}
 use Rattle.refusal.specs.declared.Refusal.{Refusal}
 use Rattle.trace.specs.declared.Recorded.{Recorded}
 use Rattle.getkey.specs.declared.Granted.{Granted}
@@ -19,9 +19,10 @@ cut (suc n) s = take record_length s ∷ cut n (drop record_length s)
 unfoldable pub records_of : Bool → List ℕ → List (List ℕ)
 records_of ends s = cut ((length s + cond ends 36 0) / record_length) s
 
--- whether so many bytes have a record: a whole one, or a part of one where the trace ends with them
-unfoldable pub has_record : Bool → ℕ → Bool
-has_record ends len = leb record_length len || (ends && ltb 0 len)
+-- the bytes that its records have: all of them where the trace ends with it, else those of its whole records
+unfoldable pub recorded : Bool → List ℕ → List ℕ
+recorded true s = s
+recorded false s = take (length s - length s % record_length) s
 
 -- 26, or what the decision by verdict answers, at the record's clock
 unfoldable pub answered : List ℕ → Result Recorded Refusal → Result Granted Refusal

@@ -2,12 +2,11 @@
 // by value: from record to record (`step`), and from chunk to chunk of a trace of any length (`replay`).
 #![tactic(auto)]
 
-ghost use Rattle.std.specs.Prelude.{◌≡◌, min, length};
+ghost use Rattle.std.specs.Prelude.{◌≡◌, length};
 ghost use Rattle.wire.specs.Parts.{onto};
 ghost use Rattle.records.specs.Writing.{output_of};
-ghost use Rattle.trace.specs.Reading.{record_length};
 ghost use Rattle.line.specs.Text.{text_of, put_all};
-ghost use Rattle.report.specs.Records.{records_of, has_record, answered, clock_of};
+ghost use Rattle.report.specs.Records.{records_of, recorded, answered, clock_of};
 ghost use Rattle.report.specs.Lines.{answer_words, line_words, total_words, total_line, total_written};
 ghost use Rattle.report.specs.Replaying.{start, step_of, replay_of, progress_of};
 
@@ -56,6 +55,7 @@ pub struct Progress {
 
 impl State {
     // Before the first record of a trace.
+    #[tactic(auto, unfolding(crate::specs::Replaying::start))]
     pub fn new() -> State
         ensures { result ≡ start }
     {
@@ -67,6 +67,7 @@ impl State {
 }
 
 // One record in, its number, its answer and the next state out; none if a count would not fit in 64 bits.
+#[tactic(auto, using(crate::proofs::Stepping::accepted_is, crate::proofs::Stepping::answer_is, crate::proofs::Stepping::one_is, crate::proofs::Stepping::steps, crate::proofs::Stepping::steps_not, crate::proofs::Stepping::last_number))]
 pub fn step(state: State, table: &[u8], s: &[u8]) -> Option<Stepped>
     ensures { result ≡ step_of table.now state s.now }
 {
@@ -87,6 +88,7 @@ pub fn step(state: State, table: &[u8], s: &[u8]) -> Option<Stepped>
 }
 
 // 26, or the decision by verdict at the record's clock.
+#[tactic(auto, unfolding(crate::specs::Records::answered))]
 fn answer_of(read: Result<Recorded, Refusal>, table: &[u8]) -> Result<Granted, Refusal>
     ensures { result ≡ answered table.now read }
 {
@@ -100,78 +102,66 @@ fn answer_of(read: Result<Recorded, Refusal>, table: &[u8]) -> Result<Granted, R
 }
 
 // The clock that counts, if the record is not 26.
+#[tactic(auto, unfolding(crate::specs::Records::clock_of))]
 fn clock_of(read: Result<Recorded, Refusal>) -> Option<FileTime>
     ensures { result ≡ clock_of read }
 {
-    match read {
-        Ok(recorded) => Some(recorded.clock),
-        Err(_) => None,
-    }
+    read.ok().map(|recorded| recorded.clock)
 }
 
 // The records of a chunk, each with its line put behind the ones before it: the whole ones, and a part of one at the end where the trace
-// ends with the chunk.
+// ends with the chunk. `chunk` and `ends` stay apart, and so do state and table: as one value
+// each would be put together by each caller, and taken apart in the first lines.
 pub fn replay(out: &mut [u8], state: State, table: &[u8], chunk: &[u8], ends: bool) -> Progress
     ensures answer { result ≡ progress_of (length chunk.now) (replay_of table.now state (records_of ends chunk.now) (length out.old)) }
     ensures output { out.new ≡ onto (replay_of table.now state (records_of ends chunk.now) (length out.old)).text out.old }
 {
     let mut text = Lent { bytes: out, len: 0 };
-    let mut present = state;
-    let mut left = chunk;
-    // No `for`: how many records are replayed is known only as their lines are put.
-    while has_record(left.len(), ends) {
+    let mut progress = Progress {
+        stopped: Stopped::Records,
+        used: 0,
+        written: 0,
+        state,
+    };
+    for record in recorded(chunk, ends).chunks(trace::LEN) {
         if text.bytes.len() - text.len < LINE {
             return Progress {
                 stopped: Stopped::Room,
-                used: chunk.len() - left.len(),
-                written: text.len,
-                state: present,
+                ..progress
             };
         }
-        let size = record_size(left.len());
-        match step(present, table, &left[..size]) {
-            Some(stepped) => {
-                put_line(&mut text, stepped.number, stepped.answer);
-                present = stepped.state;
-                left = &left[size..];
-            }
-            None => {
-                return Progress {
-                    stopped: Stopped::Full,
-                    used: chunk.len() - left.len(),
-                    written: text.len,
-                    state: present,
-                };
-            }
-        }
+        let Some(stepped) = step(progress.state, table, record) else {
+            return Progress {
+                stopped: Stopped::Full,
+                ..progress
+            };
+        };
+        put_line(&mut text, stepped.number, stepped.answer);
+        progress = Progress {
+            stopped: Stopped::Records,
+            used: progress.used + record.len(),
+            written: text.len,
+            state: stepped.state,
+        };
     }
-    Progress {
-        stopped: Stopped::Records,
-        used: chunk.len() - left.len(),
-        written: text.len,
-        state: present,
-    }
+    progress
 }
 
-// A further record: a whole one, or a part of one where the trace ends.
-fn has_record(len: usize, ends: bool) -> bool
-    ensures { result ≡ has_record ends len }
+// The bytes of a chunk's records: all of them where the trace ends with the chunk, else those of its whole records.
+#[tactic(auto, unfolding(crate::specs::Records::recorded))]
+fn recorded(chunk: &[u8], ends: bool) -> &[u8]
+    ensures { result.now ≡ recorded ends chunk.now }
 {
-    (trace::LEN <= len) | (ends & (0 < len))
-}
-
-// How long the first record is, or what there is of it.
-fn record_size(len: usize) -> usize
-    ensures { result ≡ min record_length len }
-{
-    if len < trace::LEN { len } else { trace::LEN }
+    if ends {
+        return chunk;
+    }
+    &chunk[..chunk.len() - chunk.len() % trace::LEN]
 }
 
 // A line put behind the text.
 #[tactic(auto, unfolding(line::specs::Text::put_all, crate::specs::Lines::line_words))]
 pub fn put_line<T: Text>(out: &mut T, number: u64, answer: Result<Granted, Refusal>)
-    ensures put { T.buffer out.new ≡ put_all (T.buffer out.old) (line_words number answer) }
-    ensures lender { T.lender out.new ≡ T.lender out.old }
+    ensures { T.buffer out.new ≡ put_all (T.buffer out.old) (line_words number answer) }
 {
     out.number(number);
     out.text(b" ");
@@ -181,8 +171,7 @@ pub fn put_line<T: Text>(out: &mut T, number: u64, answer: Result<Granted, Refus
 
 #[tactic(auto, unfolding(line::specs::Text::put_all, words::specs::Words::identifier_words, crate::specs::Lines::answer_words, crate::specs::Lines::row_words))]
 fn put_answer<T: Text>(out: &mut T, answer: Result<Granted, Refusal>)
-    ensures put { T.buffer out.new ≡ put_all (T.buffer out.old) (answer_words answer) }
-    ensures lender { T.lender out.new ≡ T.lender out.old }
+    ensures { T.buffer out.new ≡ put_all (T.buffer out.old) (answer_words answer) }
 {
     let granted = match answer {
         Ok(granted) => granted,
@@ -211,8 +200,7 @@ pub fn total_line(tally: Tally) -> Line
 
 #[tactic(auto, unfolding(line::specs::Text::put_all, crate::specs::Lines::total_words))]
 fn put_counts<T: Text>(out: &mut T, tally: Tally)
-    ensures put { T.buffer out.new ≡ put_all (T.buffer out.old) (total_words tally) }
-    ensures lender { T.lender out.new ≡ T.lender out.old }
+    ensures { T.buffer out.new ≡ put_all (T.buffer out.old) (total_words tally) }
 {
     out.text(b"TOTAL ");
     out.number(tally.accepted);

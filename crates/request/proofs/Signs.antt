@@ -1,8 +1,8 @@
 -- Signed numbers as the machine holds them, by their bits, and as they are meant.
-use Rattle.lemmas.proofs.Basics.{ℕ, suc, ◌-◌, ◌^◌, arith, Bool, true, false, cond, not, ◌&&◌, ◌||◌, false≢true, ◌≡◌, refl, ◌∙◌, ltb, eqb, ltb-true, leb-zero, le-ltb, eq-eqb, ne_eqb, eqb-true, eqb-false}
+use Rattle.lemmas.proofs.Basics.{ℕ, suc, ◌-◌, ◌^◌, arith, Bool, true, false, cond, not, ◌&&◌, ◌||◌, false≢true, ◌≡◌, refl, ◌∙◌, ltb, eqb, ltb-true, le-ltb, eq-eqb, ne_eqb, eqb-true, eqb-false}
 use lib.Dec.{T}
 use lib.IntN.{ℤ, pos, negsuc, nat_abs}
-use lib.Signed.{le_z, non_neg}
+use lib.Signed.{non_neg}
 use mir.Syntax.{w32}
 use mir.Val.{Fits, SFits, of_z}
 use Rattle.lemmas.proofs.Cases.{by_cases, both_true}
@@ -12,10 +12,6 @@ use Rattle.std.specs.Prelude.{Some}
 use Rattle.std.proofs.Common.{Ordering, Less, Equal, Greater}
 use Rattle.std.specs.Ordering.{int_cmp, is_gt, is_some_and, partial_ordering_then}
 use mathlib.Core.Bool.{beq}
-
-pub natural_test : (z : ℤ) → le_z (pos 0) z ≡ non_neg z
-natural_test (pos n) = leb-zero n
-natural_test (negsuc n) = refl
 
 -- -1 is the number of all bits set
 pub unset_bits : (z : ℤ) → SFits w32 z → eqb (of_z w32 z) 4294967295 ≡ unset z

@@ -24,6 +24,7 @@ pub struct Request {
 // Tests are joined by `|` and `&`, so that they compile without branches.
 impl Request {
     // 14: L0 below -1, or L1 or L2 outside -1..31.
+    #[tactic(auto, unfolding(crate::specs::Indices::out_of_range))]
     pub fn out_of_range(self) -> bool
         ensures { result ≡ out_of_range self }
     {
@@ -31,6 +32,7 @@ impl Request {
     }
 
     // 15: some index is -1, and not all are.
+    #[tactic(auto, unfolding(crate::specs::Indices::mixed))]
     pub fn is_mixed(self) -> bool
         ensures { result ≡ mixed self }
     {
@@ -51,6 +53,7 @@ impl Request {
     }
 
     // Whether the three indices are 0 or above.
+    #[tactic(auto, unfolding(crate::specs::Indices::names))]
     pub fn names_one(self) -> bool
         ensures { result ≡ names self }
     {
@@ -81,6 +84,7 @@ impl Request {
 }
 
 // Below -1.
+#[tactic(auto, unfolding(crate::specs::Indices::below))]
 fn is_below(index: i32) -> bool
     ensures { result ≡ below index }
 {
@@ -88,6 +92,7 @@ fn is_below(index: i32) -> bool
 }
 
 // Outside -1..31.
+#[tactic(auto, unfolding(crate::specs::Indices::outside))]
 fn is_outside(index: i32) -> bool
     ensures { result ≡ outside index }
 {
@@ -102,6 +107,7 @@ fn is_natural(index: i32) -> bool
 }
 
 // -1 asks for the latest.
+#[tactic(auto, using(crate::proofs::Signs::unset_bits))]
 fn is_unset(index: i32) -> bool
     ensures { result ≡ unset index }
 {

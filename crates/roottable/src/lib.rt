@@ -39,6 +39,7 @@ struct Best {
 }
 
 // 20: no multiple of 32, or over 64 rows.
+#[tactic(auto, unfolding(crate::specs::Rows::table_wrong))]
 fn is_table_wrong(len: usize) -> bool
     ensures { result ≡ table_wrong len }
 {
@@ -62,6 +63,7 @@ pub fn choose(wanted: Wanted, table: &[u8]) -> Result<Option<usize>, Refusal>
 }
 
 // One row more.
+#[tactic(auto, unfolding(crate::specs::Passing::step_of))]
 fn step(best: Option<Best>, wanted: Wanted, row: Row, k: usize) -> Option<Best>
     ensures { result ≡ step_of best (suitable wanted row) k (rank wanted row) }
 {
@@ -78,6 +80,7 @@ fn step(best: Option<Best>, wanted: Wanted, row: Row, k: usize) -> Option<Best>
 }
 
 // A row that counts: it is better where its rank is higher than that of the best before it.
+#[tactic(auto, unfolding(crate::specs::Passing::better))]
 fn better(best: Option<Best>, next: Best) -> Option<Best>
     ensures { result ≡ better best next.row next.rank }
 {
@@ -89,6 +92,7 @@ fn better(best: Option<Best>, next: Best) -> Option<Best>
 
 impl Row {
     // The row in its own 32 bytes.
+    #[tactic(auto, unfolding(crate::specs::Rows::row_at))]
     fn read(bytes: &[u8]) -> Row
         ensures { result ≡ row_at bytes.now 0 }
     {
@@ -102,6 +106,7 @@ impl Row {
 
 impl Wanted {
     // Whether a row counts.
+    #[tactic(auto, unfolding(crate::specs::Rows::suitable))]
     fn suits(self, row: Row) -> bool
         ensures { result ≡ suitable self row }
     {
@@ -113,6 +118,7 @@ impl Wanted {
     }
 
     // Which of the rows that count comes first: the highest, and of equals the first in the table.
+    #[tactic(auto, unfolding(crate::specs::Rows::rank))]
     fn rank_of(self, row: Row) -> u64
         ensures { result ≡ rank self row }
     {

@@ -35,6 +35,7 @@ pub enum Choice {
 }
 
 // The reach of an envelope: what its keys reach, or its refusal.
+#[tactic(auto, unfolding(crate::specs::Reach::reach_of))]
 pub fn envelope_reach(s: &[u8]) -> Result<Reach, Refusal>
     ensures { result ≡ envelope_reach s.now }
 {
@@ -43,6 +44,7 @@ pub fn envelope_reach(s: &[u8]) -> Result<Reach, Refusal>
 }
 
 // The key of an accepted envelope that reaches the identifier.
+#[tactic(auto, unfolding(crate::specs::Choice::key_for))]
 fn key_for(envelope: Envelope, wanted: Gkid) -> Option<Serving>
     ensures { result ≡ key_for envelope wanted }
 {
@@ -65,6 +67,7 @@ fn key_for(envelope: Envelope, wanted: Gkid) -> Option<Serving>
 }
 
 // An envelope serves if it is accepted, has that root and L0, and reaches the identifier.
+#[tactic(auto, unfolding(crate::specs::Choice::served_by))]
 fn served_by(s: &[u8], root: RootId, wanted: Gkid) -> Option<Serving>
     ensures { result ≡ served_by (envelope_of s.now) root wanted }
 {
@@ -77,7 +80,9 @@ fn served_by(s: &[u8], root: RootId, wanted: Gkid) -> Option<Serving>
     key_for(envelope, wanted)
 }
 
-// From the cached one if that serves, else the fetched one, else 23.
+// From the cached one if that serves, else the fetched one, else 23. Root and identifier stay apart: as one value they would be put together by each
+// caller, and taken apart in `served_by`.
+#[tactic(auto, unfolding(crate::specs::Choice::prefer))]
 pub fn choose(root: RootId, wanted: Gkid, cached: &[u8], fetched: &[u8]) -> Result<Choice, Refusal>
     ensures { result ≡ choice_of root wanted cached.now fetched.now }
 {
@@ -91,6 +96,7 @@ pub fn choose(root: RootId, wanted: Gkid, cached: &[u8], fetched: &[u8]) -> Resu
 }
 
 // The key that reaches the identifier, the very part of the lent bytes, or the empty part where neither serves.
+#[tactic(auto, unfolding(crate::specs::Choice::chosen_part, crate::specs::Choice::chosen_block, crate::specs::Choice::chosen_start))]
 pub fn serving_key<'a>(root: RootId, wanted: Gkid, cached: &'a [u8], fetched: &'a [u8]) -> &'a [u8]
     ensures bytes { result.now ≡ chosen_part (choice_of root wanted cached.now fetched.now) cached.now fetched.now }
     ensures place { (result.ref_ptr.0 ≡ chosen_block (choice_of root wanted cached.now fetched.now) cached.entry.ref_ptr.0 fetched.entry.ref_ptr.0) × (result.ref_ptr.1 ≡ chosen_block (choice_of root wanted cached.now fetched.now) cached.entry.ref_ptr.1 fetched.entry.ref_ptr.1 + chosen_start (choice_of root wanted cached.now fetched.now) cached.now fetched.now) }

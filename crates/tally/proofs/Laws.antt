@@ -118,12 +118,6 @@ merge_none x =
     ends_none None = refl
     ends_none (Some p) = refl
 
--- One clock is not earlier than any before it.
-pub one_earlier : (c : Option FileTime) → earlier_in (with_clock c []) ≡ 0
-unfolding earlier_in earlier_behind with_clock
-one_earlier None = refl
-one_earlier (Some time) = refl
-
 -- What fits, count by count.
 pub fits_told : (x : Tally) → fits x ≡ true → (x.accepted < 2 ^ 64) × ((x.refused < 2 ^ 64) × (x.earlier < 2 ^ 64))
 unfolding fits

@@ -33,6 +33,7 @@ pub struct Tally {
 
 impl Tally {
     // The total of no record.
+    #[tactic(auto, unfolding(crate::specs::Totals::tally_of, crate::specs::Totals::accepted_in, crate::specs::Totals::refused_in, crate::specs::Totals::clocks_in, crate::specs::Totals::earlier_in, crate::specs::Totals::ends_of))]
     pub fn new() -> Tally
         ensures { result ≡ tally_of [] }
     {
@@ -55,6 +56,7 @@ impl Tally {
     }
 
     // The total of a trace and of the one that follows it, as that of both; none if a count of it does not fit in 64 bits.
+    #[tactic(auto, using(crate::proofs::Laws::full, crate::proofs::Laws::fits_all), unfolding(crate::specs::Merging::merge))]
     pub fn merged(self, next: Tally) -> Option<Tally>
         ensures { result ≡ merged_of self next }
     {
@@ -79,6 +81,7 @@ fn seam_of(before: Option<Ends>, after: Option<Ends>) -> u64
 }
 
 // From the first's first clock to the second's last, where they have clocks.
+#[tactic(auto, unfolding(crate::specs::Merging::joined_ends))]
 fn join(before: Option<Ends>, after: Option<Ends>) -> Option<Ends>
     ensures { result ≡ joined_ends before after }
 {

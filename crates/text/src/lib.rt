@@ -37,7 +37,9 @@ pub fn judge(s: &[u8]) -> Result<(), Refusal>
     refuse_if(unpaired, Refusal::UnpairedSurrogate)
 }
 
-// A high surrogate, which a low one has to follow.
+// A high surrogate, which a low one has to follow. It and `is_low` are each one line under the name of a rule, as they would be over one
+// function of two bounds.
+#[tactic(auto, unfolding(crate::specs::Units::is_high))]
 fn is_high(unit: u16) -> bool
     ensures { result ≡ is_high unit }
 {
@@ -45,6 +47,7 @@ fn is_high(unit: u16) -> bool
 }
 
 // A low surrogate, which stands behind a high one.
+#[tactic(auto, unfolding(crate::specs::Units::is_low))]
 fn is_low(unit: u16) -> bool
     ensures { result ≡ is_low unit }
 {

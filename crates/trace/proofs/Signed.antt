@@ -9,7 +9,7 @@ use mir.Facts.{to_z_pos, to_z-of_z}
 use Rattle.trace.specs.Layout.{twos_complement}
 
 -- the machine's reading of 32 bits is the paper's
-signed : (n : ℕ) → to_z w32 n ≡ twos_complement 32 n
+pub signed : (n : ℕ) → to_z w32 n ≡ twos_complement 32 n
 unfolding twos_complement
 signed n = by_cases (λ t. sel t (pos n) (negsuc (4294967296 - suc n)) ≡ cond t (pos n) (negsuc (4294967296 - suc n))) (ltb n 2147483648) (λ _. refl) (λ _. refl)
 
@@ -31,5 +31,5 @@ module _ (x : ℕ) (high : 2147483648 ≤ x) (fits : x < 2 ^ 32) where
       ap (λ z. negsuc 0 -ℤ z) (to_z_pos w32 small) ∙ minus _ ∙ rw (le-ltb x 2147483648 high) (ap negsuc same)
 
 -- A signed result is kept as its bits, and they say the number again.
-pub kept : (z : ℤ) {n m : ℕ} → mag z < 2147483648 → z ≡ to_z w32 n → n ≡ m → to_z w32 (of_z w32 z) ≡ twos_complement 32 m
-kept z {n} small is same = to_z-of_z {w = w32} (record { sfits = small }) ∙ is ∙ signed n ∙ ap (twos_complement 32) same
+pub kept : (z : ℤ) {n m : ℕ} → mag z < 2147483648 → z ≡ twos_complement 32 n → n ≡ m → to_z w32 (of_z w32 z) ≡ twos_complement 32 m
+kept z small is same = to_z-of_z {w = w32} (record { sfits = small }) ∙ is ∙ ap (twos_complement 32) same

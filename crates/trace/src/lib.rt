@@ -3,6 +3,8 @@
 
 ghost use Rattle.std.specs.Prelude.{◌≡◌, not, ◌&&◌, ◌≤◌, eqb, length};
 ghost use Rattle.refusal.specs.Chain.{first_of};
+ghost use Rattle.wire.specs.Parts.{be_at};
+ghost use Rattle.trace.specs.Layout.{twos_complement};
 ghost use Rattle.trace.specs.Reading.{record_length, record_checks, rights_of, shown, record_of};
 
 use getkey::Rights;
@@ -53,7 +55,7 @@ fn judge(s: &[u8]) -> Result<(), Refusal>
     Ok(())
 }
 
-// Bits of the identifier are set while no root is given.
+// Bits of the identifier are set while no root is given: asked as the record's bits, since without a root there is no identifier to compare.
 fn is_stray(given: u8, id: RootId) -> bool
     ensures { result ≡ (eqb given 0 && not (eqb id.low 0 && eqb id.high 0)) }
 {
@@ -72,14 +74,23 @@ fn shown(s: &[u8]) -> Recorded
         verdict: flags / 16 % 2 == 1,
         request: Request {
             root: (flags / 128 != 0).then(|| RootId::at(s, 21)),
-            l0: be32_at(s, 9).cast_signed(),
-            l1: be32_at(s, 13).cast_signed(),
-            l2: be32_at(s, 17).cast_signed(),
+            l0: index_at(s, 9),
+            l1: index_at(s, 13),
+            l2: index_at(s, 17),
         },
     }
 }
 
-// 0 none, 1 public, 2 seed.
+// The index at `at`, in two's complement.
+#[tactic(auto, using(crate::proofs::Signed::signed))]
+fn index_at(s: &[u8], at: usize) -> i32
+    ensures { result ≡ twos_complement 32 (be_at 4 s.now at) }
+{
+    be32_at(s, at).cast_signed()
+}
+
+// 0 none, 1 public, 2 seed: two bits of a record. C's codes are the same numbers by a rule of their own (`rights_from` of face_decisions), so
+// that each can move alone.
 fn rights_of(bits: u8) -> Rights
     ensures { result ≡ rights_of bits }
 {

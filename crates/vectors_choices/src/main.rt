@@ -2,17 +2,18 @@
 // the library answers. The file `stdout` beside src/ holds what the paper says.
 #![tactic(auto)]
 
-use cases::MARK;
-use gkid::{Gkid, L0, L1, L2};
+use cases::{MARK, gkid};
+use gkid::Gkid;
 use line::{Line, Text};
 use refusal::Refusal;
 use rootid::RootId;
 use serving::{Choice, SeedKey, Serving};
 use std::io;
+use std::io::Write;
 use wire::Span;
 
 // An envelope of len bytes at (5, l1, l2), under the root of that low half.
-#[derive(Clone, Copy)]
+#[derive(Clone, Copy, Debug, PartialEq, Eq)]
 struct Held {
     len: usize,
     root: u64,
@@ -27,252 +28,254 @@ struct Held {
 }
 
 fn main(rt: HostRuntime) -> io::Result<()> {
-    cached(&rt)?;
-    fetched(&rt)?;
-    neither(&rt)?;
-    keyless(&rt)?;
-    public_at_31(&rt)?;
-    half_a_pair(&rt)
+    let to = &mut rt.stdout();
+    cached(to)?;
+    fetched(to)?;
+    neither(to)?;
+    keyless(to)?;
+    public_at_31(to)?;
+    half_a_pair(to)
 }
 
-fn cached(rt: &impl Print) -> io::Result<()> {
+fn cached(to: &mut impl Write) -> io::Result<()> {
     let own = both(3, 7);
     let l1_alone = alone(3, 7, 64, 0);
     let l2_alone = alone(3, 7, 0, 64);
-    choice(rt, b"choice: its own identifier: ", own, none(), 5, 3, 7)?;
-    choice(rt, b"choice: the first of its row: ", own, none(), 5, 3, 0)?;
     choice(
-        rt,
+        to,
+        b"choice: its own identifier: ",
+        own,
+        none(),
+        gkid(5, 3, 7),
+    )?;
+    choice(
+        to,
+        b"choice: the first of its row: ",
+        own,
+        none(),
+        gkid(5, 3, 0),
+    )?;
+    choice(
+        to,
         b"choice: the last of the row below: ",
         own,
         none(),
-        5,
-        2,
-        31,
+        gkid(5, 2, 31),
     )?;
-    choice(rt, b"choice: the first of all: ", own, none(), 5, 0, 0)?;
-    choice(rt, b"choice: both serve: ", own, both(9, 0), 5, 3, 7)?;
-    choice(rt, b"choice: equal envelopes: ", own, own, 5, 3, 7)?;
     choice(
-        rt,
+        to,
+        b"choice: the first of all: ",
+        own,
+        none(),
+        gkid(5, 0, 0),
+    )?;
+    choice(to, b"choice: both serve: ", own, both(9, 0), gkid(5, 3, 7))?;
+    choice(to, b"choice: equal envelopes: ", own, own, gkid(5, 3, 7))?;
+    choice(
+        to,
         b"choice: the L1 key at L2 31: ",
         alone(3, 31, 64, 0),
         none(),
-        5,
-        3,
-        31,
+        gkid(5, 3, 31),
     )?;
     choice(
-        rt,
+        to,
         b"choice: the L1 key alone, a row below: ",
         l1_alone,
         none(),
-        5,
-        2,
-        0,
+        gkid(5, 2, 0),
     )?;
     choice(
-        rt,
+        to,
         b"choice: the L2 key alone, its own: ",
         l2_alone,
         none(),
-        5,
-        3,
-        7,
+        gkid(5, 3, 7),
     )
 }
 
-fn fetched(rt: &impl Print) -> io::Result<()> {
+fn fetched(to: &mut impl Write) -> io::Result<()> {
     let own = both(3, 7);
     let later = both(9, 0);
-    choice(rt, b"choice: fetched by its L1 key: ", own, later, 5, 3, 8)?;
-    choice(rt, b"choice: fetched by its L2 key: ", own, later, 5, 9, 0)?;
     choice(
-        rt,
+        to,
+        b"choice: fetched by its L1 key: ",
+        own,
+        later,
+        gkid(5, 3, 8),
+    )?;
+    choice(
+        to,
+        b"choice: fetched by its L2 key: ",
+        own,
+        later,
+        gkid(5, 9, 0),
+    )?;
+    choice(
+        to,
         b"choice: cached of another root: ",
         other_root(own),
         later,
-        5,
-        3,
-        7,
+        gkid(5, 3, 7),
     )?;
     choice(
-        rt,
+        to,
         b"choice: cached cut to 79 bytes: ",
         cut(own),
         later,
-        5,
-        3,
-        7,
+        gkid(5, 3, 7),
     )?;
     choice(
-        rt,
+        to,
         b"choice: cached breaks the key rule: ",
         both(0, 7),
         later,
-        5,
-        0,
-        7,
+        gkid(5, 0, 7),
     )?;
     choice(
-        rt,
+        to,
         b"choice: cached is public: ",
         public(3, 7),
         later,
-        5,
-        3,
-        7,
+        gkid(5, 3, 7),
     )?;
-    choice(rt, b"choice: no cached one: ", none(), later, 5, 3, 7)
+    choice(to, b"choice: no cached one: ", none(), later, gkid(5, 3, 7))
 }
 
-fn neither(rt: &impl Print) -> io::Result<()> {
+fn neither(to: &mut impl Write) -> io::Result<()> {
     let own = both(3, 7);
     let later = both(9, 0);
-    choice(rt, b"choice: past both: ", own, later, 5, 9, 1)?;
-    choice(rt, b"choice: an earlier L0: ", own, later, 4, 0, 0)?;
-    choice(rt, b"choice: a later L0: ", own, later, 6, 0, 0)?;
-    choice(rt, b"choice: L1 index 32: ", own, later, 5, 32, 0)?;
-    choice(rt, b"choice: L2 index 32: ", own, later, 5, 0, 32)?;
+    choice(to, b"choice: past both: ", own, later, gkid(5, 9, 1))?;
+    choice(to, b"choice: an earlier L0: ", own, later, gkid(4, 0, 0))?;
+    choice(to, b"choice: a later L0: ", own, later, gkid(6, 0, 0))?;
+    choice(to, b"choice: L1 index 32: ", own, later, gkid(5, 32, 0))?;
+    choice(to, b"choice: L2 index 32: ", own, later, gkid(5, 0, 32))?;
     choice(
-        rt,
+        to,
         b"choice: both of another root: ",
         other_root(own),
         other_root(later),
-        5,
-        3,
-        7,
+        gkid(5, 3, 7),
     )?;
     choice(
-        rt,
+        to,
         b"choice: both cut to 79 bytes: ",
         cut(own),
         cut(later),
-        5,
-        3,
-        7,
+        gkid(5, 3, 7),
     )?;
-    choice(rt, b"choice: no envelopes: ", none(), none(), 5, 3, 7)
+    choice(to, b"choice: no envelopes: ", none(), none(), gkid(5, 3, 7))
 }
 
 // An absent key isn't replaced by another.
-fn keyless(rt: &impl Print) -> io::Result<()> {
+fn keyless(to: &mut impl Write) -> io::Result<()> {
     choice(
-        rt,
+        to,
         b"choice: public at the wanted one: ",
         public(3, 7),
         none(),
-        5,
-        3,
-        7,
+        gkid(5, 3, 7),
     )?;
     choice(
-        rt,
+        to,
         b"choice: keyless at the wanted one: ",
         alone(3, 7, 0, 0),
         none(),
-        5,
-        3,
-        7,
+        gkid(5, 3, 7),
     )?;
     choice(
-        rt,
+        to,
         b"choice: the L1 key alone, its own: ",
         alone(3, 7, 64, 0),
         none(),
-        5,
-        3,
-        7,
+        gkid(5, 3, 7),
     )?;
     choice(
-        rt,
+        to,
         b"choice: the L2 key alone, a row below: ",
         alone(3, 7, 0, 64),
         none(),
-        5,
-        2,
-        31,
+        gkid(5, 2, 31),
     )?;
     choice(
-        rt,
+        to,
         b"choice: a row past the L1 key at L2 31: ",
         alone(3, 31, 64, 0),
         none(),
-        5,
-        4,
-        0,
+        gkid(5, 4, 0),
     )
 }
 
 // Document 02, No. 4: a public envelope that carries its key at L2 index 31 serves nothing.
-fn public_at_31(rt: &impl Print) -> io::Result<()> {
+fn public_at_31(to: &mut impl Write) -> io::Result<()> {
     let at_31 = public(3, 31);
     let seed = alone(3, 31, 64, 0);
-    choice(rt, b"choice: public at L2 31: ", at_31, none(), 5, 3, 31)?;
-    choice(rt, b"choice: public, below L2 31: ", at_31, none(), 5, 3, 0)?;
     choice(
-        rt,
+        to,
+        b"choice: public at L2 31: ",
+        at_31,
+        none(),
+        gkid(5, 3, 31),
+    )?;
+    choice(
+        to,
+        b"choice: public, below L2 31: ",
+        at_31,
+        none(),
+        gkid(5, 3, 0),
+    )?;
+    choice(
+        to,
         b"choice: both public at L2 31: ",
         at_31,
         at_31,
-        5,
-        3,
-        31,
+        gkid(5, 3, 31),
     )?;
     choice(
-        rt,
+        to,
         b"choice: cached public at L2 31: ",
         at_31,
         seed,
-        5,
-        3,
-        31,
+        gkid(5, 3, 31),
     )
 }
 
 // Document 02, No. 6: an envelope with an unpaired surrogate in a text serves nothing: the other one, or neither.
-fn half_a_pair(rt: &impl Print) -> io::Result<()> {
+fn half_a_pair(to: &mut impl Write) -> io::Result<()> {
     let own = both(3, 7);
     let broken = surrogate(own);
     choice(
-        rt,
+        to,
         b"choice: half a pair in the cached one: ",
         broken,
         own,
-        5,
-        3,
-        7,
+        gkid(5, 3, 7),
     )?;
     choice(
-        rt,
+        to,
         b"choice: half a pair in the fetched one: ",
         own,
         broken,
-        5,
-        3,
-        7,
+        gkid(5, 3, 7),
     )?;
     choice(
-        rt,
+        to,
         b"choice: half a pair in the cached one alone: ",
         broken,
         none(),
-        5,
-        3,
-        7,
+        gkid(5, 3, 7),
     )?;
     choice(
-        rt,
+        to,
         b"choice: half a pair in both: ",
         broken,
         broken,
-        5,
-        3,
-        7,
+        gkid(5, 3, 7),
     )
 }
 
 // A seed envelope with keys of these lengths.
+// The two indices stay apart, here and in Held: as an identifier each envelope would say the L0 that all share, and `put` take it apart.
 fn alone(l1: u32, l2: u32, l1_key: u32, l2_key: u32) -> Held {
     Held {
         len: 88 + l1_key as usize + l2_key as usize,
@@ -341,25 +344,18 @@ fn put(s: &mut [u8], held: Held, mark: u8) {
     cases::numbers(s, keys + held.l1_key as usize, &[mark as u32 + 2]);
 }
 
-// The choice for the identifier (l0, l1, l2) under the root whose low half is 2.
+// The choice for this identifier under the root whose low half is 2.
 fn choice(
-    rt: &impl Print,
+    to: &mut impl Write,
     name: &[u8],
     cached: Held,
     fetched: Held,
-    l0: u32,
-    l1: u32,
-    l2: u32,
+    wanted: Gkid,
 ) -> io::Result<()> {
     let mut a = [0; 218];
     let mut b = [0; 218];
     put(&mut a, cached, 10);
     put(&mut b, fetched, 20);
-    let wanted = Gkid {
-        l0: L0(l0),
-        l1: L1(l1),
-        l2: L2(l2),
-    };
     let mut line = Line::new();
     line.text(name);
     chosen(
@@ -368,7 +364,7 @@ fn choice(
         cases::first(&a, cached.len),
         cases::first(&b, fetched.len),
     );
-    print(rt, line)
+    cases::print(to, line)
 }
 
 // The answer; and the part's length and the number that it begins with.
@@ -402,10 +398,4 @@ fn by(line: &mut Line, serving: Serving) {
         SeedKey::L2 => line.text(b"L2 "),
     }
     words::span(line, serving.place);
-}
-
-// A finished line, on standard output. Each program has these two lines: of that stream no contract says a thing, and `cases` is proved.
-fn print(rt: &impl Print, mut line: Line) -> io::Result<()> {
-    line.text(b"\n");
-    rt.write_all(line.as_bytes())
 }

@@ -8,69 +8,70 @@ mod places;
 use descriptor::Part;
 use line::{Line, Text};
 use std::io;
-use std::io::Read;
+use std::io::{Read, Write};
 
 // Revision 1 and the control bit 0x8000, as the head's first number.
 const FIRST: u32 = 0x8000_0001;
 
 fn main(rt: HostRuntime) -> io::Result<()> {
-    peer(&rt, &mut rt.stdin())?;
-    lengths(&rt)?;
-    heads(&rt)?;
-    items::run(&rt)?;
-    places::run(&rt)?;
-    orders(&rt)
+    let to = &mut rt.stdout();
+    peer(to, &mut rt.stdin())?;
+    lengths(to)?;
+    heads(to)?;
+    items::run(to)?;
+    places::run(to)?;
+    orders(to)
 }
 
 // Another implementation's, on standard input: owner at 48, DACL at 20 with one entry of 20 bytes.
-fn peer(rt: &impl Print, from: &mut impl Read) -> io::Result<()> {
+fn peer(to: &mut impl Write, from: &mut impl Read) -> io::Result<()> {
     let mut bytes = [0; 64];
     if let Ok(len) = input::read_all(from, &mut bytes) {
-        told(rt, b"descriptor: a peer's: ", cases::first(&bytes, len))?;
+        told(to, b"descriptor: a peer's: ", cases::first(&bytes, len))?;
     }
     Ok(())
 }
 
-fn lengths(rt: &impl Print) -> io::Result<()> {
+fn lengths(to: &mut impl Write) -> io::Result<()> {
     let mut bytes = [0; 65536];
     cases::numbers(&mut bytes, 0, &[FIRST]);
-    told(rt, b"descriptor: the least: ", cases::first(&bytes, 20))?;
-    told(rt, b"descriptor: 19 bytes: ", cases::first(&bytes, 19))?;
-    told(rt, b"descriptor: empty: ", cases::first(&bytes, 0))?;
+    told(to, b"descriptor: the least: ", cases::first(&bytes, 20))?;
+    told(to, b"descriptor: 19 bytes: ", cases::first(&bytes, 19))?;
+    told(to, b"descriptor: empty: ", cases::first(&bytes, 0))?;
     told(
-        rt,
+        to,
         b"descriptor: 65,535 bytes: ",
         cases::first(&bytes, 65535),
     )?;
-    told(rt, b"descriptor: 65,536 bytes: ", &bytes)
+    told(to, b"descriptor: 65,536 bytes: ", &bytes)
 }
 
-fn heads(rt: &impl Print) -> io::Result<()> {
-    changed(rt, b"descriptor: four items: ", 0, &[FIRST])?;
-    changed(rt, b"descriptor: revision 0: ", 0, &[0x8000_0000])?;
-    changed(rt, b"descriptor: revision 2: ", 0, &[0x8000_0002])?;
-    changed(rt, b"descriptor: control 0x7FFF: ", 0, &[0x7FFF_0001])?;
-    changed(rt, b"descriptor: control 0xFFFF: ", 0, &[0xFFFF_0001])?;
-    changed(rt, b"descriptor: Sbz1 of 255: ", 0, &[0x8000_FF01])
+fn heads(to: &mut impl Write) -> io::Result<()> {
+    changed(to, b"descriptor: four items: ", 0, &[FIRST])?;
+    changed(to, b"descriptor: revision 0: ", 0, &[0x8000_0000])?;
+    changed(to, b"descriptor: revision 2: ", 0, &[0x8000_0002])?;
+    changed(to, b"descriptor: control 0x7FFF: ", 0, &[0x7FFF_0001])?;
+    changed(to, b"descriptor: control 0xFFFF: ", 0, &[0xFFFF_0001])?;
+    changed(to, b"descriptor: Sbz1 of 255: ", 0, &[0x8000_FF01])
 }
 
 // Each part where the next fails too.
-fn orders(rt: &impl Print) -> io::Result<()> {
-    changed(rt, b"descriptor: head before owner: ", 0, &[0, 1])?;
-    changed(rt, b"descriptor: owner before group: ", 4, &[1, 1])?;
-    changed(rt, b"descriptor: group before SACL: ", 8, &[1, 1])?;
-    changed(rt, b"descriptor: SACL before DACL: ", 12, &[1, 1])
+fn orders(to: &mut impl Write) -> io::Result<()> {
+    changed(to, b"descriptor: head before owner: ", 0, &[0, 1])?;
+    changed(to, b"descriptor: owner before group: ", 4, &[1, 1])?;
+    changed(to, b"descriptor: group before SACL: ", 8, &[1, 1])?;
+    changed(to, b"descriptor: SACL before DACL: ", 12, &[1, 1])
 }
 
 // A sound descriptor of 92 bytes with numbers put into it from a place on. A number at the start of an ACL or an entry has its size in
 // the upper half. The items stand end to end: the owner at 20, 16 bytes; the
 // group at 36, 8 bytes; the SACL at 44, 20 bytes, with entries of 4 and 8 bytes at 52 and 56; the DACL at 64, 28 bytes, with an entry of
 // 20 bytes at 72.
-fn changed(rt: &impl Print, name: &[u8], at: usize, numbers: &[u32]) -> io::Result<()> {
+fn changed(to: &mut impl Write, name: &[u8], at: usize, numbers: &[u32]) -> io::Result<()> {
     let mut bytes = [0; 92];
     four_items(&mut bytes);
     cases::numbers(&mut bytes, at, numbers);
-    told(rt, name, &bytes)
+    told(to, name, &bytes)
 }
 
 fn four_items(bytes: &mut [u8]) {
@@ -82,11 +83,11 @@ fn four_items(bytes: &mut [u8]) {
 }
 
 // A case: its name, and what is found.
-fn told(rt: &impl Print, name: &[u8], bytes: &[u8]) -> io::Result<()> {
+fn told(to: &mut impl Write, name: &[u8], bytes: &[u8]) -> io::Result<()> {
     let mut line = Line::new();
     line.text(name);
     found(&mut line, descriptor::check(bytes));
-    print(rt, line)
+    cases::print(to, line)
 }
 
 fn found(line: &mut Line, finding: Result<(), Part>) {
@@ -98,10 +99,4 @@ fn found(line: &mut Line, finding: Result<(), Part>) {
         Err(Part::Sacl) => line.text(b"SACL"),
         Err(Part::Dacl) => line.text(b"DACL"),
     }
-}
-
-// A finished line, on standard output. Each program has these two lines: of that stream no contract says a thing, and `cases` is proved.
-fn print(rt: &impl Print, mut line: Line) -> io::Result<()> {
-    line.text(b"\n");
-    rt.write_all(line.as_bytes())
 }

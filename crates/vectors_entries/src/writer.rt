@@ -1,26 +1,27 @@
 // Entries written, and read back.
-use crate::{entries, print};
+use crate::entries;
 use cases::FILL;
 use keyentry::EntryPart;
 use line::{Line, Text};
 use std::io;
+use std::io::Write;
 
-pub fn run(rt: &impl Print) -> io::Result<()> {
-    lengths(rt)?;
-    orders(rt)
+pub fn run(to: &mut impl Write) -> io::Result<()> {
+    lengths(to)?;
+    orders(to)
 }
 
-fn lengths(rt: &impl Print) -> io::Result<()> {
-    write(rt, b"entry writer: room to spare: ", 64, 1, 8, 8, 3)?;
-    write(rt, b"entry writer: just room: ", 31, 0, 8, 8, 3)?;
-    write(rt, b"entry writer: a byte short: ", 30, 0, 8, 8, 3)?;
-    write(rt, b"entry writer: item of 3: ", 64, 0, 3, 3, 3)?;
-    write(rt, b"entry writer: item of 0: ", 64, 0, 0, 0, 3)?;
-    write(rt, b"entry writer: item of 8 that says 7: ", 64, 0, 7, 8, 3)?;
-    write(rt, b"entry writer: FEK of 0: ", 64, 0, 8, 8, 0)?;
-    write(rt, b"entry writer: 65536 bytes: ", 64, 0, 4, 4, 65_512)?;
+fn lengths(to: &mut impl Write) -> io::Result<()> {
+    write(to, b"entry writer: room to spare: ", 64, 1, 8, 8, 3)?;
+    write(to, b"entry writer: just room: ", 31, 0, 8, 8, 3)?;
+    write(to, b"entry writer: a byte short: ", 30, 0, 8, 8, 3)?;
+    write(to, b"entry writer: item of 3: ", 64, 0, 3, 3, 3)?;
+    write(to, b"entry writer: item of 0: ", 64, 0, 0, 0, 3)?;
+    write(to, b"entry writer: item of 8 that says 7: ", 64, 0, 7, 8, 3)?;
+    write(to, b"entry writer: FEK of 0: ", 64, 0, 8, 8, 0)?;
+    write(to, b"entry writer: 65536 bytes: ", 64, 0, 4, 4, 65_512)?;
     write(
-        rt,
+        to,
         b"entry writer: 65535 bytes in too little room: ",
         64,
         0,
@@ -31,15 +32,16 @@ fn lengths(rt: &impl Print) -> io::Result<()> {
 }
 
 // Two refusals apply: the first is the answer.
-fn orders(rt: &impl Print) -> io::Result<()> {
-    write(rt, b"entry writer: 1 before 7: ", 64, 0, 0, 0, 65_516)?;
-    write(rt, b"entry writer: 3 before 7: ", 64, 0, 7, 8, 0)?;
-    write(rt, b"entry writer: 7 before 13: ", 0, 0, 8, 8, 0)
+fn orders(to: &mut impl Write) -> io::Result<()> {
+    write(to, b"entry writer: 1 before 7: ", 64, 0, 0, 0, 65_516)?;
+    write(to, b"entry writer: 3 before 7: ", 64, 0, 7, 8, 0)?;
+    write(to, b"entry writer: 7 before 13: ", 0, 0, 8, 8, 0)
 }
 
 // An entry written into `room` bytes, with an item of n bytes that says so many, and a FEK of e.
+// The numbers stay apart: so most cases are one line; a struct would take a line for each, or a maker with the same numbers.
 fn write(
-    rt: &impl Print,
+    to: &mut impl Write,
     name: &[u8],
     room: usize,
     flags: u32,
@@ -61,19 +63,21 @@ fn write(
         cases::first(&item, n),
         cases::first(&fek, e),
     );
-    print(rt, line)
+    cases::print(to, line)
 }
 
-fn written(line: &mut Line, out: &mut [u8], room: usize, flags: u32, item: &[u8], fek: &[u8]) {
+// Each record's writer has its cases in this shape: one function for all would take the writer and what reads back as closures, two for each.
+// The room is the case's, of a buffer that is filled whole, so that it is seen what stands behind.
+fn written(line: &mut Line, out: &mut [u8; 64], room: usize, flags: u32, item: &[u8], fek: &[u8]) {
     if room <= out.len() {
         let answer = keyentry::write(&mut out[0..room], flags, item, fek);
         words::written(line, answer);
         if let Ok(len) = answer {
             line.text(b" ");
             read_back(line, cases::first(out, len), item, fek);
-            return kept(line, out, len);
+            return cases::fill_kept(line, out, len);
         }
-        kept(line, out, 0);
+        cases::fill_kept(line, out, 0);
     }
 }
 
@@ -84,11 +88,4 @@ fn read_back(line: &mut Line, s: &[u8], item: &[u8], fek: &[u8]) {
     cases::compared(line, keyentry::part(s, EntryPart::Item), item);
     line.text(b" ");
     cases::compared(line, keyentry::part(s, EntryPart::Fek), fek);
-}
-
-// Whether the output from len on is as it was.
-fn kept(line: &mut Line, out: &[u8], len: usize) {
-    let before = [FILL; 64];
-    line.text(b" ");
-    cases::kept(line, &before, out, len);
 }

@@ -123,6 +123,7 @@ fn key_lengths_at_31(rt: &impl Print) -> io::Result<()> {
 }
 
 // An envelope at (5, l1, l2) with four texts of 2 bytes and these keys.
+// The numbers stay apart: so most cases are one line; a struct would take a line for each, or a maker with the same numbers.
 fn keyed(
     rt: &impl Print,
     name: &[u8],

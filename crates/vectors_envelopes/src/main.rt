@@ -18,7 +18,7 @@ fn main(rt: HostRuntime) -> io::Result<()> {
     heads::orders(&rt)
 }
 
-// Bytes, on standard output.
+// Bytes, on standard output. The lines come ended from envline, so that there is none to finish, as cases::print does.
 fn write(rt: &impl Print, bytes: &[u8]) -> io::Result<()> {
     rt.write_all(bytes)
 }

@@ -10,6 +10,7 @@ pub const FRONT: [u32; 6] = [0, MARK, 0, 0, 0, 0];
 pub const TEXTS: [u32; 10] = [2, 0, 2, 0, 0, 0, 0, 0, 2, 2];
 
 // An envelope of len bytes with this head, whose bodies are zeros.
+// The numbers stay apart, here and in `spelt`: so nine of twenty cases of heads are one line; a struct would take a line for each, or a maker with the same numbers.
 pub fn headed(
     rt: &impl Print,
     name: &[u8],

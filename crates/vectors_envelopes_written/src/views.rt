@@ -1,19 +1,18 @@
 // Two envelopes with all that they show, each written again: one with a value of its own in each field, and one that another
 // implementation made (sample data of the test suite of Samba 4.22), which stands on standard input.
-use crate::print;
 use cases::MARK;
 use envelope::{Bodies, EnvelopePart, Head};
 use line::{Line, Text};
 use std::io;
-use std::io::Read;
+use std::io::{Read, Write};
 use wire::Span;
 
-pub fn run(rt: &impl Print, from: &mut impl Read) -> io::Result<()> {
-    own(rt)?;
-    peer(rt, from)
+pub fn run(to: &mut impl Write, from: &mut impl Read) -> io::Result<()> {
+    own(to)?;
+    peer(to, from)
 }
 
-fn own(rt: &impl Print) -> io::Result<()> {
+fn own(to: &mut impl Write) -> io::Result<()> {
     let mut s = [0; 226];
     cases::envelope(
         &mut s,
@@ -22,59 +21,59 @@ fn own(rt: &impl Print) -> io::Result<()> {
         [4, 1, 2, 3, 9, 10, 64, 64, 6, 2],
     );
     cases::bytes(&mut s, 80, b"a\0\0\0p\0\0qrsb\0c\0\0\0\0\0key");
-    view(rt, &s)
+    view(to, &s)
 }
 
-fn peer(rt: &impl Print, from: &mut impl Read) -> io::Result<()> {
+fn peer(to: &mut impl Write, from: &mut impl Read) -> io::Result<()> {
     let mut buffer = [0; 65536];
     if let Ok(len) = input::read_all(from, &mut buffer) {
         let s = cases::first(&buffer, len);
         let mut line = Line::new();
         line.text(b"peer: ");
         envline::shown(&mut line, s);
-        print(rt, line)?;
-        view(rt, s)?;
-        names(rt, s)?;
+        cases::print(to, line)?;
+        view(to, s)?;
+        names(to, s)?;
     }
     Ok(())
 }
 
 // The names in the peer's texts.
-fn names(rt: &impl Print, s: &[u8]) -> io::Result<()> {
+fn names(to: &mut impl Write, s: &[u8]) -> io::Result<()> {
     named(
-        rt,
+        to,
         b"peer: KDF algorithm: ",
         envelope::part(s, EnvelopePart::Kdf),
         b"S\0P\08\00\00\0_\01\00\08\0_\0C\0T\0R\0_\0H\0M\0A\0C\0\0\0",
     )?;
     named(
-        rt,
+        to,
         b"peer: agreement algorithm: ",
         envelope::part(s, EnvelopePart::Agreement),
         b"D\0H\0\0\0",
     )?;
     named(
-        rt,
+        to,
         b"peer: domain: ",
         envelope::part(s, EnvelopePart::Domain),
         b"e\0x\0a\0m\0p\0l\0e\0.\0c\0o\0m\0\0\0",
     )?;
     named(
-        rt,
+        to,
         b"peer: forest: ",
         envelope::part(s, EnvelopePart::Forest),
         envelope::part(s, EnvelopePart::Domain),
     )
 }
 
-fn named(rt: &impl Print, name: &[u8], text: &[u8], expected: &[u8]) -> io::Result<()> {
+fn named(to: &mut impl Write, name: &[u8], text: &[u8], expected: &[u8]) -> io::Result<()> {
     let mut line = Line::new();
     line.text(name);
     cases::compared(&mut line, text, expected);
-    print(rt, line)
+    cases::print(to, line)
 }
 
-fn view(rt: &impl Print, s: &[u8]) -> io::Result<()> {
+fn view(to: &mut impl Write, s: &[u8]) -> io::Result<()> {
     let mut line = Line::new();
     line.text(b"envelope: all values: ");
     match envelope::read(s) {
@@ -83,12 +82,12 @@ fn view(rt: &impl Print, s: &[u8]) -> io::Result<()> {
             let bodies = envelope.bodies;
             show_head(&mut line, head);
             show_bodies(&mut line, bodies);
-            print(rt, line)?;
-            rewritten(rt, head, s)
+            cases::print(to, line)?;
+            rewritten(to, head, s)
         }
         Err(refusal) => {
             words::refused(&mut line, refusal);
-            print(rt, line)
+            cases::print(to, line)
         }
     }
 }
@@ -131,13 +130,13 @@ fn place(line: &mut Line, span: Span) {
 }
 
 // What was read from an accepted envelope is written into as many bytes, and they are compared.
-fn rewritten(rt: &impl Print, head: Head, s: &[u8]) -> io::Result<()> {
+fn rewritten(to: &mut impl Write, head: Head, s: &[u8]) -> io::Result<()> {
     let mut out = [0; 65536];
     if s.len() <= out.len() {
         let mut line = Line::new();
         line.text(b"envelope rewritten: ");
         rewrite(&mut line, &mut out[0..s.len()], head, s);
-        print(rt, line)?;
+        cases::print(to, line)?;
     }
     Ok(())
 }

@@ -6,7 +6,6 @@ mod reader;
 mod sizes;
 mod writer;
 
-use line::{Line, Text};
 use std::io;
 
 // The bytes from 20 on of a header with three blocks: two zeros, the three shifts, 01 and the block count.
@@ -15,10 +14,19 @@ const THREE: [u8; 8] = [0, 0, 12, 12, 9, 1, 3, 0];
 // The same with 16,376 blocks, as many as there can be.
 const MOST: [u8; 8] = [0, 0, 12, 12, 9, 1, 248, 63];
 
+// A header that a case puts together: the numbers in front, the bytes from 20 on, and the sizes from 28 on.
+#[derive(Clone, Copy, Debug, PartialEq, Eq)]
+struct Header<'a> {
+    front: [u32; 5],
+    fixed: [u8; 8],
+    sizes: &'a [u32],
+}
+
 fn main(rt: HostRuntime) -> io::Result<()> {
-    reader::run(&rt)?;
-    sizes::run(&rt)?;
-    writer::run(&rt)
+    let to = &mut rt.stdout();
+    reader::run(to)?;
+    sizes::run(to)?;
+    writer::run(to)
 }
 
 // The numbers in front of those bytes: the start offset 4,294,967,298, Length, 3 bytes in the stream and 4 in the VDL.
@@ -26,15 +34,8 @@ fn front(length: u32) -> [u32; 5] {
     [2, 1, length, 3, 4]
 }
 
-// A header, with its sizes from 28 on.
-fn put(s: &mut [u8], front: [u32; 5], fixed: [u8; 8], sizes: &[u32]) {
-    cases::numbers(s, 0, &front);
-    cases::bytes(s, 20, &fixed);
-    cases::numbers(s, 28, sizes);
-}
-
-// A finished line, on standard output. Each program has these two lines: of that stream no contract says a thing, and `cases` is proved.
-fn print(rt: &impl Print, mut line: Line) -> io::Result<()> {
-    line.text(b"\n");
-    rt.write_all(line.as_bytes())
+fn put(s: &mut [u8], header: Header) {
+    cases::numbers(s, 0, &header.front);
+    cases::bytes(s, 20, &header.fixed);
+    cases::numbers(s, 28, header.sizes);
 }

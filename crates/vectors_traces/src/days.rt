@@ -8,39 +8,37 @@ pub fn run(rt: &impl Print) -> io::Result<()> {
     three(
         rt,
         b"clocks that rise\n",
-        [NOW, NOW + 1, NOW + 2],
-        [0x50, 0x50, 0x50],
+        [(NOW, 0x50), (NOW + 1, 0x50), (NOW + 2, 0x50)],
     )?;
-    three(rt, b"equal clocks\n", [NOW, NOW, NOW], [0x50, 0x50, 0x50])?;
+    three(
+        rt,
+        b"equal clocks\n",
+        [(NOW, 0x50), (NOW, 0x50), (NOW, 0x50)],
+    )?;
     three(
         rt,
         b"clocks that go back twice\n",
-        [NOW + 2, NOW + 1, NOW],
-        [0x50, 0x50, 0x50],
+        [(NOW + 2, 0x50), (NOW + 1, 0x50), (NOW, 0x50)],
     )?;
     three(
         rt,
         b"26 between clocks that go back\n",
-        [NOW + 2, NOW + 3, NOW],
-        [0x50, 0x51, 0x50],
+        [(NOW + 2, 0x50), (NOW + 3, 0x51), (NOW, 0x50)],
     )?;
     three(
         rt,
         b"26 goes back alone\n",
-        [NOW + 2, NOW, NOW + 2],
-        [0x50, 0x51, 0x50],
+        [(NOW + 2, 0x50), (NOW, 0x51), (NOW + 2, 0x50)],
     )?;
     three(
         rt,
         b"26 first\n",
-        [NOW + 2, NOW + 1, NOW],
-        [0x51, 0x50, 0x50],
+        [(NOW + 2, 0x51), (NOW + 1, 0x50), (NOW, 0x50)],
     )?;
     three(
         rt,
         b"a refused record counts for the clock\n",
-        [NOW + 2, NOW, NOW + 1],
-        [0x50, 0x40, 0x50],
+        [(NOW + 2, 0x50), (NOW, 0x40), (NOW + 1, 0x50)],
     )?;
     cut(rt, b"a part of a record at the end\n")?;
     created(rt, b"no row: created anew each time\n")
@@ -51,35 +49,32 @@ fn empty(rt: &impl Print) -> io::Result<()> {
     day(rt, b"no record\n", &[0; 32], &s)
 }
 
-fn three(rt: &impl Print, name: &[u8], clocks: [u64; 3], flags: [u8; 3]) -> io::Result<()> {
-    let s = trace(clocks, flags);
+fn three(rt: &impl Print, name: &[u8], records: [(u64, u8); 3]) -> io::Result<()> {
+    let s = trace(records);
     day(rt, name, &[0; 32], &s)
 }
 
 // Two records and 36 bytes of a third.
 fn cut(rt: &impl Print, name: &[u8]) -> io::Result<()> {
-    let s = trace([NOW, NOW, 0], [0x50, 0x50, 0x50]);
+    let s = trace([(NOW, 0x50), (NOW, 0x50), (0, 0x50)]);
     day(rt, name, &[0; 32], cases::first(&s, 110))
 }
 
 fn created(rt: &impl Print, name: &[u8]) -> io::Result<()> {
-    let s = trace([NOW, NOW, NOW], [0x50, 0x30, 0x10]);
+    let s = trace([(NOW, 0x50), (NOW, 0x30), (NOW, 0x10)]);
     day(rt, name, &[0; 0], &s)
 }
 
-fn trace(clocks: [u64; 3], flags: [u8; 3]) -> [u8; 111] {
+// Three records, each of its clock and its byte 8.
+fn trace(records: [(u64, u8); 3]) -> [u8; 111] {
     let mut s = [0u8; 111];
-    let a = recorded(clocks[0], flags[0], LATEST, LATEST, LATEST);
-    let b = recorded(clocks[1], flags[1], LATEST, LATEST, LATEST);
-    let c = recorded(clocks[2], flags[2], LATEST, LATEST, LATEST);
-    cases::bytes(&mut s, 0, &a);
-    cases::bytes(&mut s, 37, &b);
-    cases::bytes(&mut s, 74, &c);
+    for (k, record) in records.iter().enumerate() {
+        cases::bytes(&mut s, 37 * k, &recorded(record.0, record.1, LATEST));
+    }
     s
 }
 
 fn day(rt: &impl Print, name: &[u8], table: &[u8], trace: &[u8]) -> io::Result<()> {
     let state = told(rt, name, table, trace)?;
-    let tally = state.tally;
-    rt.write_all(report::total_line(tally).as_bytes())
+    rt.write_all(report::total_line(state.tally).as_bytes())
 }

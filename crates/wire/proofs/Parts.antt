@@ -17,10 +17,6 @@ pub start_in : (s : List ℕ) (at len : ℕ) → at + len ≤ length s → start
 unfolding start_of
 start_in s at len h = rw (le-leb (at + len) (length s) h)
 
-pub start_out : (s : List ℕ) (at len : ℕ) → length s < at + len → start_of s at len ≡ 0
-unfolding start_of
-start_out s at len h = rw (lt-leb (at + len) (length s) h)
-
 -- A part of no bytes is empty, wherever it lies.
 pub part_empty : (s : List ℕ) (at : ℕ) → part_of s at 0 ≡ []
 unfolding part_of

@@ -51,7 +51,8 @@ lent done bs s a e {now} {last} n p b h l =
 pub onto-none : (s : List ℕ) → onto [] s ≡ s
 onto-none s = onto_in [] s (omega arith)
 
--- Two bodies, each put into its own part of s, one behind the other.
+-- Two bodies, each put into its own part of s, one behind the other. This law and the two behind it are cited by no proof: they stand, since the
+-- documents named them.
 pub lent_two : (a b s : List ℕ) {put last : List ℕ} → length a + length b ≤ length s → put ≡ onto a (mid_of 0 (length a - 0) s)
     → last ≡ onto b (mid_of (length a) (length a + length b - length a) (put_mid 0 (length a - 0) s put))
     → put_mid (length a) (length a + length b - length a) (put_mid 0 (length a - 0) s put) last ≡ onto (a ++ b) s

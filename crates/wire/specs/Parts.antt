@@ -1,5 +1,6 @@
 -- A part of a list of bytes, a number at a place in it, and bytes put at its start. Offsets and lengths are whole numbers.
-use Rattle.std.specs.Prelude.{ℕ, ◌+◌, cond, List, [], ◌∷◌, ◌++◌, map, length, take, drop, leb}
+use Rattle.std.specs.Prelude.{ℕ, ◌≡◌, ◌+◌, cond, List, [], ◌∷◌, ◌++◌, map, length, take, drop, leb}
+use Rattle.std.specs.Borrow.{Bor}
 use Rattle.wire.specs.Numbers.{le_of, le_bytes, be_of}
 
 -- the len bytes from at on, or none where any of it lies outside
@@ -9,6 +10,10 @@ part_of s at len = cond (leb (at + len) (length s)) (take len (drop at s)) []
 -- where that part begins: an empty part that stands for one outside lies at the start
 unfoldable pub start_of : List ℕ → ℕ → ℕ → ℕ
 start_of s at len = cond (leb (at + len) (length s)) at 0
+
+-- bytes that are handed out lie in what was lent: in the same block, so many bytes behind its first
+abbrev pub LiesAt : Bor (List ℕ) → Bor (List ℕ) → ℕ → Type 0
+LiesAt part whole start = (part.ref_ptr.0 ≡ whole.ref_ptr.0) × (part.ref_ptr.1 ≡ whole.ref_ptr.1 + start)
 
 -- the number in the w bytes from at on, or 0 where any of it lies outside
 unfoldable pub le_at : ℕ → List ℕ → ℕ → ℕ

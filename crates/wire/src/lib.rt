@@ -4,7 +4,7 @@
 
 ghost use Rattle.std.specs.Prelude.{◌≡◌, ◌+◌, drop};
 ghost use Rattle.wire.specs.Numbers.{le_of, le_bytes, be_of};
-ghost use Rattle.wire.specs.Parts.{le_at, be_at, part_of, start_of, onto, le32_bytes};
+ghost use Rattle.wire.specs.Parts.{le_at, be_at, part_of, start_of, onto, le32_bytes, LiesAt};
 
 // A place in a slice: `len` bytes from `at` on.
 #[derive(Debug, Clone, Copy, PartialEq, Eq)]
@@ -18,7 +18,7 @@ pub struct Span {
 #[tactic(auto, unfolding(crate::specs::Parts::part_of, crate::specs::Parts::start_of))]
 pub fn part(s: &[u8], span: Span) -> &[u8]
     ensures bytes { result.now ≡ part_of s.now span.at span.len }
-    ensures place { (result.ref_ptr.0 ≡ s.entry.ref_ptr.0) × (result.ref_ptr.1 ≡ s.entry.ref_ptr.1 + start_of s.now span.at span.len) }
+    ensures place { LiesAt result s.entry (start_of s.now span.at span.len) }
 {
     let Span { at, len } = span;
     if at <= s.len() && len <= s.len() - at {
@@ -54,6 +54,7 @@ pub fn byte_at(s: &[u8], at: usize) -> u8
 }
 
 // The little-endian u16 at `at`, or 0 where it does not lie wholly inside.
+#[tactic(auto, unfolding(crate::specs::Numbers::le_of))]
 pub fn le16_at(s: &[u8], at: usize) -> u16
     ensures { result ≡ le_at 2 s.now at }
 {
@@ -61,6 +62,7 @@ pub fn le16_at(s: &[u8], at: usize) -> u16
 }
 
 // The little-endian u32 at `at`, or 0 where it does not lie wholly inside.
+#[tactic(auto, unfolding(crate::specs::Numbers::le_of))]
 pub fn le32_at(s: &[u8], at: usize) -> u32
     ensures { result ≡ le_at 4 s.now at }
 {
@@ -75,6 +77,7 @@ pub fn le64_at(s: &[u8], at: usize) -> u64
 }
 
 // The u32 at `at`, most significant byte first, or 0 where it does not lie wholly inside.
+#[tactic(auto, unfolding(crate::specs::Numbers::be_of, crate::specs::Numbers::le_of))]
 pub fn be32_at(s: &[u8], at: usize) -> u32
     ensures { result ≡ be_at 4 s.now at }
 {

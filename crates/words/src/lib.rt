@@ -1,5 +1,5 @@
 // What answers are called in a text: refusals, identifiers, forms, places, and what a writer answers. Words stand one space apart;
-// none is put in front of the first or behind the last.
+// none is put in front of the first or behind the last. They are put by functions and not by a `Display`: the trait `Text` says why.
 #![tactic(auto)]
 
 ghost use Rattle.std.specs.Prelude.{◌≡◌};
@@ -15,8 +15,7 @@ use wire::Span;
 // L0, L1 and L2.
 #[tactic(auto, unfolding(line::specs::Text::put_all, crate::specs::Words::identifier_words))]
 pub fn identifier<T: Text>(out: &mut T, at: Gkid)
-    ensures put { T.buffer out.new ≡ put_all (T.buffer out.old) (identifier_words at) }
-    ensures lender { T.lender out.new ≡ T.lender out.old }
+    ensures { T.buffer out.new ≡ put_all (T.buffer out.old) (identifier_words at) }
 {
     out.number(at.l0.0 as u64);
     out.text(b" ");
@@ -28,8 +27,7 @@ pub fn identifier<T: Text>(out: &mut T, at: Gkid)
 // NOKEY, L1ONLY, L2ONLY, BOTH or PUBLIC.
 #[tactic(auto, unfolding(crate::specs::Words::form_word))]
 pub fn form<T: Text>(out: &mut T, form: Form)
-    ensures put { T.buffer out.new ≡ put (T.buffer out.old) (form_word form) }
-    ensures lender { T.lender out.new ≡ T.lender out.old }
+    ensures { T.buffer out.new ≡ put (T.buffer out.old) (form_word form) }
 {
     match form {
         Form::Keyless => out.text(b"NOKEY"),
@@ -43,8 +41,7 @@ pub fn form<T: Text>(out: &mut T, form: Form)
 // REFUSED and the number.
 #[tactic(auto, unfolding(line::specs::Text::put_all, crate::specs::Words::refused_words))]
 pub fn refused<T: Text>(out: &mut T, refusal: Refusal)
-    ensures put { T.buffer out.new ≡ put_all (T.buffer out.old) (refused_words refusal) }
-    ensures lender { T.lender out.new ≡ T.lender out.old }
+    ensures { T.buffer out.new ≡ put_all (T.buffer out.old) (refused_words refusal) }
 {
     out.text(b"REFUSED ");
     out.number(refusal.number() as u64);
@@ -53,8 +50,7 @@ pub fn refused<T: Text>(out: &mut T, refusal: Refusal)
 // A place: its offset and its length.
 #[tactic(auto, unfolding(line::specs::Text::put_all, crate::specs::Words::span_words))]
 pub fn span<T: Text>(out: &mut T, span: Span)
-    ensures put { T.buffer out.new ≡ put_all (T.buffer out.old) (span_words span) }
-    ensures lender { T.lender out.new ≡ T.lender out.old }
+    ensures { T.buffer out.new ≡ put_all (T.buffer out.old) (span_words span) }
 {
     out.number(span.at as u64);
     out.text(b" ");
@@ -64,8 +60,7 @@ pub fn span<T: Text>(out: &mut T, span: Span)
 // WRITTEN and the record's length; or the refusal.
 #[tactic(auto, unfolding(line::specs::Text::put_all, crate::specs::Words::written_words))]
 pub fn written<T: Text>(out: &mut T, answer: Result<usize, Refusal>)
-    ensures put { T.buffer out.new ≡ put_all (T.buffer out.old) (written_words answer) }
-    ensures lender { T.lender out.new ≡ T.lender out.old }
+    ensures { T.buffer out.new ≡ put_all (T.buffer out.old) (written_words answer) }
 {
     match answer {
         Ok(len) => {

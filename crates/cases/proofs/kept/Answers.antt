@@ -6,12 +6,12 @@ use Rattle.cases.specs.Comparing.{kept_word}
 use Rattle.cases.proofs.Comparing.{same_is}
 use Rattle.cases.proofs.kept.Goals as goal
 
-pub returns-then-eq-clause-put : goal.returns-then-eq-clause-put
+pub returns-then-eq : goal.returns-then-eq
 unfolding kept_word
-returns-then-eq-clause-put g c =
-    rw (sym c.rest-2.ensures, sym c.rest.ensures, same_is c.rest.result.now c.rest-2.result.now c.eq.result (slice_eq-Decides Decides-eqb _ _ _ c.eq.ensures) ∙ c.if-eq.true) c.text.ensures.put
+returns-then-eq g c =
+    rw (sym c.rest-2.ensures, sym c.rest.ensures, same_is c.rest.result.now c.rest-2.result.now c.eq.result (slice_eq-Decides Decides-eqb _ _ _ c.eq.ensures) ∙ c.if-eq.true) c.text.ensures
 
-pub returns-else-eq-clause-put : goal.returns-else-eq-clause-put
+pub returns-else-eq : goal.returns-else-eq
 unfolding kept_word
-returns-else-eq-clause-put g c =
-    rw (sym c.rest-2.ensures, sym c.rest.ensures, same_is c.rest.result.now c.rest-2.result.now c.eq.result (slice_eq-Decides Decides-eqb _ _ _ c.eq.ensures) ∙ c.if-eq.false) c.text-else-eq.ensures.put
+returns-else-eq g c =
+    rw (sym c.rest-2.ensures, sym c.rest.ensures, same_is c.rest.result.now c.rest-2.result.now c.eq.result (slice_eq-Decides Decides-eqb _ _ _ c.eq.ensures) ∙ c.if-eq.false) c.text-else-eq.ensures

@@ -15,19 +15,19 @@ unfolding layout_checks first_of
 returns-then-index_above_31 c =
     rw (← c.head_of-head.ensures, sym c.index_above_31.ensures ∙ c.if-index_above_31.true)
 
-pub returns-then-end_of-s : goal.returns-then-end_of-s
+pub returns-then-end-s : goal.returns-then-end-s
 unfolding layout_checks first_of
-returns-then-end_of-s c =
-    rw (← c.head_of-head.ensures, sym c.index_above_31.ensures ∙ c.if-index_above_31.false, ← c.lengths_of-n.ensures.lengths, ← c.end_of.ensures, ne_eqb _ _ c.if-end_of-s.true)
+returns-then-end-s c =
+    rw (← c.head_of-head.ensures, sym c.index_above_31.ensures ∙ c.if-index_above_31.false, ← c.of-n.ensures, ← c.end.ensures, ne_eqb _ _ c.if-end-s.true)
 
 pub returns-in_err-judge_texts : goal.returns-in_err-judge_texts
 unfolding unless_refused
 returns-in_err-judge_texts c =
-    passed_on c.from_residual.ensures.1 ∙ rw c.in_err-judge_texts.was at (layout_judged _ c.head_of-head.ensures c.lengths_of-n.ensures.lengths c.bodies_of-bodies.ensures
-    (sym c.index_above_31.ensures ∙ c.if-index_above_31.false) (sym c.end_of.ensures ∙ c.if-end_of-s.false) (c.judge_texts.ensures ∙ texts_at c.part.ensures.bytes c.part-2.ensures.bytes c.part-3.ensures.bytes c.part-4.ensures.bytes) refl)
+    passed_on c.from_residual.ensures.1 ∙ rw c.in_err-judge_texts.was at (layout_judged _ c.head_of-head.ensures c.of-n.ensures c.places-bodies.ensures
+    (sym c.index_above_31.ensures ∙ c.if-index_above_31.false) (sym c.end.ensures ∙ c.if-end-s.false) (c.judge_texts.ensures ∙ texts_at c.part.ensures.bytes c.part-2.ensures.bytes c.part-3.ensures.bytes c.part-4.ensures.bytes) refl)
 
 pub returns : goal.returns
 unfolding unless_refused
 returns c =
-    rw c.in_ok-judge_texts.was at (layout_judged _ c.head_of-head.ensures c.lengths_of-n.ensures.lengths c.bodies_of-bodies.ensures
-    (sym c.index_above_31.ensures ∙ c.if-index_above_31.false) (sym c.end_of.ensures ∙ c.if-end_of-s.false) (c.judge_texts.ensures ∙ texts_at c.part.ensures.bytes c.part-2.ensures.bytes c.part-3.ensures.bytes c.part-4.ensures.bytes) c.judge_keys.ensures)
+    rw c.in_ok-judge_texts.was at (layout_judged _ c.head_of-head.ensures c.of-n.ensures c.places-bodies.ensures
+    (sym c.index_above_31.ensures ∙ c.if-index_above_31.false) (sym c.end.ensures ∙ c.if-end-s.false) (c.judge_texts.ensures ∙ texts_at c.part.ensures.bytes c.part-2.ensures.bytes c.part-3.ensures.bytes c.part-4.ensures.bytes) c.judge_keys.ensures)

@@ -14,7 +14,7 @@ returns c =
     let size = length-le32_bytes (front c.args.head) in
     let r1 = lent [] before c.args.dst.now 0 24 (sym (onto-none c.args.dst.now)) refl (omega (arith, size)) (omega arith) c.put_le32s.ensures in
     let r2 = lent before root c.args.dst.now 24 40 r1 size (omega (arith, length-root_bytes c.args.head.root)) (omega arith) c.put.ensures in
-    let r3 = lent (before ++ root) (le32_bytes (back c.args.head c.args.n)) c.args.dst.now 40 80 r2 (omega (arith, size, length-append before root, length-root_bytes c.args.head.root))
-    (omega (arith, length-le32_bytes (back c.args.head c.args.n))) (omega arith) c.put_le32s-2.ensures
+    let r3 = lent (before ++ root) (le32_bytes (back c.args.head c.args.n.each)) c.args.dst.now 40 80 r2 (omega (arith, size, length-append before root, length-root_bytes c.args.head.root))
+    (omega (arith, length-le32_bytes (back c.args.head c.args.n.each))) (omega arith) c.put_le32s-2.ensures
     in
-    r3 ∙ ap (λ bs. onto bs c.args.dst.now) (head_runs c.args.head c.args.n)
+    r3 ∙ ap (λ bs. onto bs c.args.dst.now) (head_runs c.args.head c.args.n.each)

@@ -13,7 +13,7 @@ returns c =
     let line = c.text.new.self in
     let start = c.new-line.result in
     let words = line_words (envelope_of c.args.s.now) in
-    let placed : buffer line.bytes line.len ≡ put_all (buffer start.bytes start.len) (words ++ (newline ∷ [])) =
-    c.text.ensures.put ∙ ap (λ b. put b newline) c.shown.ensures.put ∙ put-append (buffer start.bytes start.len) words (newline ∷ [])
+    let placed : buffer 0 line.bytes line.len ≡ put_all (buffer 0 start.bytes start.len) (words ++ (newline ∷ [])) =
+    c.text.ensures ∙ ap (λ b. put b newline) c.shown.ensures ∙ put-append (buffer 0 start.bytes start.len) words (newline ∷ [])
     in
-    ap text_in placed ∙ put-laid (words ++ (newline ∷ [])) start.bytes start.len (search rules) ∙ rw c.new-line.ensures (ended (envelope_of c.args.s.now))
+    ap text_in placed ∙ put-laid (buffer 0 start.bytes start.len) (words ++ (newline ∷ [])) (search rules) ∙ rw c.new-line.ensures (ended (envelope_of c.args.s.now))

@@ -5,7 +5,7 @@ use Rattle.line.proofs.Lines.{put-append}
 use Rattle.report.specs.Lines.{answer_words, line_words}
 use Rattle.report.proofs.put_line.Goals as goal
 
-pub returns-clause-put : goal.returns-clause-put
+pub returns : goal.returns
 unfolding put_all line_words
-returns-clause-put g c =
-    rw (c.text-2.ensures.put, c.put_answer.ensures.put, c.text.ensures.put, c.number.ensures.put) (put-append _ (answer_words _) (newline ∷ []))
+returns g c =
+    rw (c.text-2.ensures, c.put_answer.ensures, c.text.ensures, c.number.ensures) (put-append _ (answer_words _) (newline ∷ []))

@@ -1,12 +1,9 @@
-use Rattle.lemmas.proofs.Basics.{◌≡◌, length}
+use Rattle.line.specs.Text.{buffer}
 use Rattle.report.proofs.Looping.{Replaying}
 use Rattle.report.proofs.replay.Given as goal
 
-abbrev pub invariant-loop-left : goal.invariant-loop-left
-invariant-loop-left l = record {
-  lender : l.text.bytes.ghost_name ≡ l.initial.text.bytes.ghost_name;
-  replaying : Replaying l.table l.chunk l.initial.text.bytes.now l.ends l.initial.present l.text.bytes.now l.left l.present l.text.len;
-}
-
-abbrev pub decreases-loop-left : goal.decreases-loop-left
-decreases-loop-left l = length l.left
+abbrev pub invariant-loop-record : goal.invariant-loop-record
+invariant-loop-record l =
+    let lent = l.initial.text.bytes in
+    let out = buffer l.text.bytes.ghost_name l.text.bytes.now l.text.len in
+    Replaying l.table l.chunk lent.ghost_name lent.now l.ends l.initial.progress.state out l.record-iterator l.progress

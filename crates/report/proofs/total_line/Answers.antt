@@ -4,4 +4,4 @@ use Rattle.report.proofs.Lines.{total-put}
 use Rattle.report.proofs.total_line.Goals as goal
 
 pub returns : goal.returns
-returns c = total-put _ _ _ (search rules) c.new-line.ensures c.put_counts.ensures.put
+returns c = total-put _ _ (search rules) c.new-line.ensures c.put_counts.ensures

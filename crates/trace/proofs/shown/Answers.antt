@@ -2,9 +2,9 @@
 use Rattle.lemmas.proofs.Basics.{◌/◌, rules, ◌≡◌, sym, ap, ◌∙◌, eqb, get_or}
 use Rattle.wire.proofs.Numbers.{bytes_each}
 use Rattle.trace.specs.Layout.{root_field}
+use Rattle.trace.proofs.Signed.{kept}
 use Rattle.trace.specs.Reading.{rights_of, root_of, shown}
 use Rattle.trace.proofs.Fields.{given_is, rights_is, verdict_is, clock_is, root_is, l0_is, l1_is, l2_is}
-use Rattle.trace.proofs.Signed.{kept}
 use Rattle.trace.proofs.shown.Goals as goal
 
 pub returns : goal.returns
@@ -22,8 +22,8 @@ returns c =
       request =
           record {
             root = (root ∙ ap (λ g. root_of g (root_field s)) (sym (given_is s b w))) i;
-            l0 = kept _ c.cast_signed.type_inv c.cast_signed.ensures (c.be32_at.ensures ∙ sym (l0_is s b w)) i;
-            l1 = kept _ c.cast_signed-2.type_inv c.cast_signed-2.ensures (c.be32_at-2.ensures ∙ sym (l1_is s b w)) i;
-            l2 = kept _ c.cast_signed-3.type_inv c.cast_signed-3.ensures (c.be32_at-3.ensures ∙ sym (l2_is s b w)) i;
+            l0 = kept _ c.index_at.type_inv c.index_at.ensures (sym (l0_is s b w)) i;
+            l1 = kept _ c.index_at-2.type_inv c.index_at-2.ensures (sym (l1_is s b w)) i;
+            l2 = kept _ c.index_at-3.type_inv c.index_at-3.ensures (sym (l2_is s b w)) i;
           };
     }

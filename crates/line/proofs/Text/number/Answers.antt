@@ -17,4 +17,4 @@ pub slice_bounds-text-end : goal.slice_bounds-text-end
 slice_bounds-text-end g c = rw length-set (omega arith)
 
 pub returns : goal.returns
-returns g c = record { put = c.text.ensures.put ∙ ap (put _) (spelt_last _ c.loop-rest.invariant (omega arith)); lender = c.text.ensures.lender }
+returns g c = c.text.ensures ∙ ap (put _) (spelt_last _ c.loop-rest.invariant (omega arith))
