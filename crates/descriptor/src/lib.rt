@@ -36,10 +36,21 @@ pub fn number(finding: Result<(), Part>) -> u32
 pub fn is_sound(s: &[u8]) -> bool
     ensures { result ≡ is_sound s.now }
 {
-    check(s).is_ok()
+    finding(s).is_ok()
+}
+
+// The check as a call. In the decision, were it inlined there, an entry of an ACL would take 13 instructions for 11.
+#[inline(never)]
+fn finding(s: &[u8]) -> Result<(), Part>
+    ensures { result ≡ finding_of s.now }
+{
+    check(s)
 }
 
 // Sound, or the part that fails first: head, owner, group, SACL, DACL, in the standard's order. Each ACL is passed over once.
+// Inlined, so that who asks for its number has it without a call: as one, the least descriptor takes 1.3 times as long, and one whose head is
+// refused up to 1.7 times.
+#[inline(always)]
 #[tactic(auto, unfolding(crate::specs::Checking::finding_of))]
 pub fn check(s: &[u8]) -> Result<(), Part>
     ensures { result ≡ finding_of s.now }

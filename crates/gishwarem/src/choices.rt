@@ -14,14 +14,14 @@ use face_choices::{ChoiceAnswer, ReachAnswer};
 pub extern "C" fn gw_envelope_reach(s: &[u8]) -> ReachAnswer
     ensures { result ≡ reach_answer (envelope_reach s.now) }
 {
-    serving::envelope_reach(s).into()
+    ReachAnswer::from(serving::envelope_reach(s))
 }
 
 #[unsafe(no_mangle)]
 pub extern "C" fn gw_form_reach(form: u32, at: Identifier) -> ReachAnswer
     ensures { result ≡ reach_answer (form_reach (form_from form) (gkid_from at)) }
 {
-    reach::form_reach(form_from(form), at.into()).into()
+    ReachAnswer::from(reach::form_reach(form_from(form), at.into()))
 }
 
 #[unsafe(no_mangle)]

@@ -63,8 +63,8 @@ unfolding first_of
 first_refused [] after r p = refl
 first_refused ((applies ⇒ q) ∷ before) after r p = rw p.0 (first_refused before after r p.1)
 
--- The chain as code runs it, one `refuse_if` after another, is the chain: `run_first`, and `refuse_is` for a link of it. Cited by no proof, they
--- stand, since the documents named them.
+-- The chain as code runs it, one `refuse_if` after another, is the chain: `run_first`, with `refuse_is` for a link of it, and `linked`, by which
+-- a `refuse_if` of code behind a `?` is such a link.
 unfoldable pub run : Outcome → List Check → Outcome
 run o [] = o
 run o ((applies ⇒ r) ∷ checks) = run (refuse_if o applies r) checks
@@ -83,6 +83,11 @@ run_first ((false ⇒ r) ∷ checks) = run_first checks
 -- a link of the chain, from the link before it and the value of its test
 pub refuse_is : {o p : Outcome} {a b : Bool} (r : Refusal) → o ≡ p → a ≡ b → refuse_if o a r ≡ refuse_if p b r
 refuse_is r e f = λ i. refuse_if (e i) (f i) r
+
+-- a check of code is the list of that one, and a `?` before it goes on where nothing is refused
+pub linked : (o : Outcome) (applies : Bool) (r : Refusal) → goes_on o (first_of ((applies ⇒ r) ∷ [])) ≡ run o ((applies ⇒ r) ∷ [])
+unfolding run refuse_if first_of
+linked o applies r = refl
 
 -- Two lists of checks, one behind the other: the chain goes on where the first comes to no refusal.
 pub first_append : (checks others : List Check) → first_of (checks ++ others) ≡ goes_on (first_of checks) (first_of others)

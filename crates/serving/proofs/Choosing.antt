@@ -6,6 +6,7 @@ use Rattle.lemmas.proofs.Cases.{by_cases, cond_cases, both_true, true-or, false-
 use Rattle.refusal.specs.Outcome.{Outcome}
 use Rattle.refusal.specs.Chain.{first_of, unless_refused}
 use Rattle.refusal.specs.declared.Refusal.{Refusal}
+use Rattle.refusal.specs.declared.Refusal.TheVariants.{NeitherServes}
 use Rattle.refusal.proofs.Numbers.{number_not-zero}
 use Rattle.wire.specs.declared.Span.{Span}
 use Rattle.wire.specs.Parts.{part_of}
@@ -131,11 +132,11 @@ reached_by-one s i z k1 k2 = not_by_both _ (head_of s).at i _ _ _ (accepted-keys
     some : (n : ℕ) → n ≡ 64 → 0 < n
     some n h = omega arith
 
--- what a choice says of two envelopes: the cached one if that serves, else the fetched one, else neither
+-- what a choice says of two envelopes: the cached one if that serves, else the fetched one, else neither, which is 23
 abbrev pub ChoiceSays : RootId → Gkid → List ℕ → List ℕ → Result Choice Refusal → Type 0
 ChoiceSays root i cached fetched (Ok (Cached serving)) = Says cached root i (Some serving)
 ChoiceSays root i cached fetched (Ok (Fetched serving)) = Says cached root i None × Says fetched root i (Some serving)
-ChoiceSays root i cached fetched (Err r) = Says cached root i None × Says fetched root i None
+ChoiceSays root i cached fetched (Err r) = (r ≡ NeitherServes) × (Says cached root i None × Says fetched root i None)
 
 module _ (root : RootId) (i : Gkid) (cached fetched : List ℕ) where
   pub choice_says : ChoiceSays root i cached fetched (choice_of root i cached fetched)
@@ -145,7 +146,7 @@ module _ (root : RootId) (i : Gkid) (cached fetched : List ℕ) where
       of : (a b : Option Serving) → Says cached root i a → Says fetched root i b → ChoiceSays root i cached fetched (prefer a b)
       of (Some serving) b x y = x
       of None (Some serving) x y = (x, y)
-      of None None x y = (x, y)
+      of None None x y = (refl, (x, y))
 
   -- The part is 64 bytes where a key is chosen, and empty exactly where 23 is answered.
   pub part_length : length (chosen_part (choice_of root i cached fetched) cached fetched) ≡ cond (eqb (choice_number (choice_of root i cached fetched)) 0) 64 0
