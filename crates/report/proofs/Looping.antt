@@ -165,9 +165,10 @@ module _ {table chunk : List ℕ} {lender : GName} {lent : List ℕ} {ends : Boo
       let now : Progress = record { stopped = why; used = p.used; written = p.written; state = p.state } in
       record { answer : now ≡ progress_of (length chunk) whole; output : out ≡ buffer lender (onto whole.text lent) (length whole.text) }
 
-  told : (why : Stopped) → replay_of table p.state (records_of true (chunks_rest left)) (length lent - length r.done) ≡ halt why p.state → Told why
+  -- No more: what was replayed is the whole.
+  pub replaying_stop : (why : Stopped) → replay_of table p.state (records_of true (chunks_rest left)) (length lent - length r.done) ≡ halt why p.state → Told why
   unfolding progress_of
-  told why halted =
+  replaying_stop why halted =
       let all = r.whole ∙ ap (behind r.passed r.done) halted in
       let n = r.passed + 0 in
       let used : p.used ≡ min (37 * n) (length chunk) = r.used ∙ omega (arith, r.rest) ∙ used_is ends n (omega (arith, r.few)) in
@@ -180,17 +181,17 @@ module _ {table chunk : List ℕ} {lender : GName} {lent : List ℕ} {ends : Boo
   -- Why it stops: no record; no room that is sure to do; a count that does not fit.
   pub no_record : (rest : Chunks ℕ) → chunks_steps left None rest → Told p.stopped
   unfolding replay_of
-  no_record rest steps = rw r.stopped (told Records (ap (λ rs. replay_of table p.state rs (length lent - length r.done)) (records-none true (chunks_rest left) (omega (arith, steps.1.0)))))
+  no_record rest steps = rw r.stopped (replaying_stop Records (ap (λ rs. replay_of table p.state rs (length lent - length r.done)) (records-none true (chunks_rest left) (omega (arith, steps.1.0)))))
 
   pub no_room : (s : Bor (List ℕ)) (rest : Chunks ℕ) → chunks_steps left (Some s) rest → length out.bytes - out.len < line_room → Told Room
   unfolding replay_of
   no_room s rest steps small =
-      told Room
+      replaying_stop Room
       (ap (λ rs. replay_of table p.state rs (length lent - length r.done)) (records_left s rest steps) ∙ rw (lt-ltb (length lent - length r.done) line_room (omega (arith, room_left))))
 
   pub no_count : (s : Bor (List ℕ)) (rest : Chunks ℕ) → chunks_steps left (Some s) rest → line_room ≤ length out.bytes - out.len → step_of table p.state s.now ≡ None → Told Full
   unfolding replay_of
   no_count s rest steps enough full =
-      told Full
+      replaying_stop Full
       (ap (λ rs. replay_of table p.state rs (length lent - length r.done)) (records_left s rest steps)
       ∙ rw (le-ltb (length lent - length r.done) line_room (omega (arith, room_left)), step_full table p.state s.now full))
